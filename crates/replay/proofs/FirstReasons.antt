@@ -1,0 +1,301 @@
+-- Which reasons hold of an entry.
+use Rattle.std.proofs.Common.{◌≡◌, ◌≢◌, ℕ, zero, suc, ◌+◌, ◌<◌, ◌≤◌, ◌⊎◌, inl, inr, Bool, true, false, length, refl, sym, ap, subst, ◌∙◌, arith}
+use Rattle.std.proofs.lemmas.Bool.{false≢true, true≢false}
+use Rattle.values_undef.specs.Access.{choice_of_event}
+use Rattle.values_undef.specs.declared.access.Event.{Event}
+use Rattle.values_undef.specs.declared.access.Access.TheVariants as access
+use Rattle.values_undef.specs.declared.access.Choice.{Choice}
+use Rattle.values_undef.specs.declared.access.Choice.TheVariants.{Plain}
+use Rattle.values_undef.specs.declared.journal.Entry.{Entry}
+use Rattle.il_syntax.specs.declared.program.Program.{Program}
+use Rattle.thread_core.specs.declared.next.Next.{Next}
+use Rattle.thread_core.specs.declared.next.Next.TheVariants as next
+use Rattle.view_machine.specs.declared.stepped.Stepped.TheVariants as stepped
+use Rattle.view_machine.specs.State.{State, has_ended, next_in, view_in, Allows, IsRunning, IsStep, step_by, after_step, IsSpendable}
+use Rattle.std.proofs.lemmas.List.{length-map, length-set}
+use Rattle.std.proofs.Common.{map, set, add-one}
+use Rattle.std.specs.Prelude.{IsTrue, ◌↔◌}
+use Rattle.view_machine.specs.State.{local_in, StepTaken}
+use Rattle.view_machine.specs.declared.stepped.Stepped.{Stepped}
+use Rattle.view_machine.specs.Runs.{after_event, after_entry}
+use Rattle.view_machine.specs.Held.{Held, state_in}
+use Rattle.view_machine.proofs.RunLaws.{silent_more, after_silent-more}
+use Rattle.thread_core.specs.Frames.{advanced}
+use Rattle.thread_core.specs.Steps.{stack_in}
+use Rattle.view_machine.specs.Runs.{is_spend, after_silent, AreSilent, MakesEventBy, MakesEvent, IsEntry}
+use Rattle.replay.specs.declared.verdict.Why.{Why}
+use Rattle.replay.specs.declared.verdict.Why.TheVariants as why
+use Rattle.replay.specs.Reasons.{IsGone, IsAtAccess, ReachesAccess, StaysSilent, SpendsAtTheEnd, HasOtherSilent, before_event, HasNoChoice, HasOtherEvent, IsReason, rank, IsFirstReason, IsReasonOfEvent}
+
+-- ---- a thread that runs
+
+pub running_stays : (s : State) (i : ℕ) → IsRunning s i → IsGone s i → ⊥
+running_stays s i r (inl h) = absurd (omega (arith, r.there))
+running_stays s i r (inr h) = true≢false (sym h ∙ r.going)
+
+pub running_unfailed : (s : State) (i : ℕ) → IsRunning s i → s.memory.failed ≡ true → ⊥
+running_unfailed s i r h = true≢false (sym h ∙ r.running)
+
+-- ---- silent steps
+
+at_access_not_silent : (n : Next) → n ≡ next.Silent → IsAtAccess n → ⊥
+at_access_not_silent n e h = subst IsAtAccess e h
+
+-- within silent steps the code is at no access
+silent_within : (p : Program) (i n did : ℕ) (s : State) → AreSilent p i n s → did < n → IsAtAccess (next_in (after_silent p i did s) i) → ⊥
+silent_within p i zero did s h less a = absurd (omega arith)
+silent_within p i (suc n) zero s h less a = at_access_not_silent (next_in s i) h.1 a
+silent_within p i (suc n) (suc did) s h less a = silent_within p i n did (after_step p s i Plain).state h.2 (omega arith) a
+
+-- before an access that is no end of a budget, the silent steps are those of the entry
+no_other_silent : (p : Program) (s : State) (entry : Entry) (did : ℕ) → AreSilent p entry.thread entry.silent s → IsAtAccess (next_in (before_event p s entry) entry.thread) → is_spend entry.event ≡ false → HasOtherSilent p s entry did → ⊥
+no_other_silent p s entry did h a e (inl r) = silent_within p entry.thread entry.silent did s h r.fewer r.access
+no_other_silent p s entry did h a e (inr (inl r)) =
+    at_access_not_silent (next_in (before_event p s entry) entry.thread) (ap (λ (n : ℕ). next_in (after_silent p entry.thread n s) entry.thread) (sym r.all) ∙ r.silent) a
+no_other_silent p s entry did h a e (inr (inr r)) = true≢false (sym r.event ∙ e)
+
+-- ---- first reasons
+
+pub first_thread : (p : Program) (s : State) (entry : Entry) → IsGone s entry.thread → IsFirstReason p s entry why.Thread
+first_thread p s entry h = record { holds = h; first = λ other less _. absurd (omega arith) }
+
+only_thread : (p : Program) (s : State) (entry : Entry) (other : Why) → rank other < 1 → (IsGone s entry.thread → ⊥) → IsReason p s entry other → ⊥
+only_thread p s entry why.Thread less here h = here h
+only_thread p s entry why.After less here h = absurd (omega arith)
+only_thread p s entry (why.Silent did) less here h = absurd (omega arith)
+only_thread p s entry why.Choice less here h = absurd (omega arith)
+only_thread p s entry (why.Event is) less here h = absurd (omega arith)
+
+pub first_after : (p : Program) (s : State) (entry : Entry) → (IsGone s entry.thread → ⊥) → s.memory.failed ≡ true → IsFirstReason p s entry why.After
+first_after p s entry here h = record { holds = h; first = λ other less q. only_thread p s entry other less here q }
+
+before_silent : (p : Program) (s : State) (entry : Entry) (other : Why) → rank other < 2 → IsRunning s entry.thread → IsReason p s entry other → ⊥
+before_silent p s entry why.Thread less r h = running_stays s entry.thread r h
+before_silent p s entry why.After less r h = running_unfailed s entry.thread r h
+before_silent p s entry (why.Silent did) less r h = absurd (omega arith)
+before_silent p s entry why.Choice less r h = absurd (omega arith)
+before_silent p s entry (why.Event is) less r h = absurd (omega arith)
+
+pub first_silent : (p : Program) (s : State) (entry : Entry) (did : ℕ) → IsRunning s entry.thread → HasOtherSilent p s entry did → IsFirstReason p s entry (why.Silent did)
+first_silent p s entry did r h = record { holds = h; first = λ other less q. before_silent p s entry other less r q }
+
+-- the code reached an access after fewer steps
+pub first_fewer : (p : Program) (s : State) (entry : Entry) (did : ℕ) → IsRunning s entry.thread → did < entry.silent → AreSilent p entry.thread did s → IsAtAccess (next_in (after_silent p entry.thread did s) entry.thread) → IsFirstReason p s entry (why.Silent did)
+first_fewer p s entry did r less h a = first_silent p s entry did r (inl (record { fewer = less; steps = h; access = a }))
+
+before_choice : (p : Program) (s : State) (entry : Entry) (other : Why) → rank other < 3 → IsRunning s entry.thread → AreSilent p entry.thread entry.silent s
+    → IsAtAccess (next_in (before_event p s entry) entry.thread) → is_spend entry.event ≡ false → IsReason p s entry other → ⊥
+before_choice p s entry why.Thread less r h a e q = running_stays s entry.thread r q
+before_choice p s entry why.After less r h a e q = running_unfailed s entry.thread r q
+before_choice p s entry (why.Silent did) less r h a e q = no_other_silent p s entry did h a e q
+before_choice p s entry why.Choice less r h a e q = absurd (omega arith)
+before_choice p s entry (why.Event is) less r h a e q = absurd (omega arith)
+
+before_other_event : (p : Program) (s : State) (entry : Entry) (other : Why) → rank other < 4 → IsRunning s entry.thread → AreSilent p entry.thread entry.silent s
+    → IsAtAccess (next_in (before_event p s entry) entry.thread) → is_spend entry.event ≡ false → IsStep (before_event p s entry) entry.thread (choice_of_event entry.event) → IsReason p s entry other → ⊥
+before_other_event p s entry why.Thread less r h a e step q = running_stays s entry.thread r q
+before_other_event p s entry why.After less r h a e step q = running_unfailed s entry.thread r q
+before_other_event p s entry (why.Silent did) less r h a e step q = no_other_silent p s entry did h a e q
+before_other_event p s entry why.Choice less r h a e step q = q.none step
+before_other_event p s entry (why.Event is) less r h a e step q = absurd (omega arith)
+
+-- ---- after the silent steps
+
+pub stays_silent : (p : Program) (t : State) (entry : Entry) → next_in t entry.thread ≡ next.Silent → is_spend entry.event ≡ false → IsReasonOfEvent p t entry (why.Silent entry.silent)
+stays_silent p t entry n e s h q r =
+    first_silent p s entry entry.silent r (inr (inl (record { all = refl; steps = h; silent = ap (λ (u : State). next_in u entry.thread) (sym q) ∙ n; event = e })))
+
+pub spends_at_the_end : (p : Program) (t : State) (entry : Entry) → next_in t entry.thread ≡ next.Access access.Finish → is_spend entry.event ≡ true → IsReasonOfEvent p t entry (why.Silent entry.silent)
+spends_at_the_end p t entry n e s h q r =
+    first_silent p s entry entry.silent r (inr (inr (record { all = refl; steps = h; finish = ap (λ (u : State). next_in u entry.thread) (sym q) ∙ n; event = e })))
+
+pub has_no_choice : (p : Program) (t : State) (entry : Entry) → IsAtAccess (next_in t entry.thread) → is_spend entry.event ≡ false → (IsStep t entry.thread (choice_of_event entry.event) → ⊥) → IsReasonOfEvent p t entry why.Choice
+has_no_choice p t entry a e none s h q r =
+    let a' : IsAtAccess (next_in (before_event p s entry) entry.thread) = subst (λ (u : State). IsAtAccess (next_in u entry.thread)) q a in
+    record {
+      holds = record { event = e; none = λ step. none (subst (λ (u : State). IsStep u entry.thread (choice_of_event entry.event)) (sym q) step) };
+      first = λ other less f. before_choice p s entry other less r h a' e f;
+    }
+
+-- a step that has an event is at an access
+did_access : (p : Program) (s : State) (i : ℕ) (c : Choice) (n : Next) (e : Event) → (step_by p s i c n).done ≡ stepped.Did e → IsAtAccess n
+did_access p s i c next.Silent e q = cc
+did_access p s i c (next.Access a) e q = tt
+
+pub has_other_event : (p : Program) (t : State) (entry : Entry) (is : Event) → is_spend entry.event ≡ false → IsStep t entry.thread (choice_of_event entry.event)
+    → (after_step p t entry.thread (choice_of_event entry.event)).done ≡ stepped.Did is → is ≢ entry.event → IsReasonOfEvent p t entry (why.Event is)
+has_other_event p t entry is e step done other s h q r =
+    let step' : IsStep (before_event p s entry) entry.thread (choice_of_event entry.event) = subst (λ (u : State). IsStep u entry.thread (choice_of_event entry.event)) q step in
+    let done' : (after_step p (before_event p s entry) entry.thread (choice_of_event entry.event)).done ≡ stepped.Did is =
+    subst (λ (u : State). (after_step p u entry.thread (choice_of_event entry.event)).done ≡ stepped.Did is) q done in
+    let a = did_access p (before_event p s entry) entry.thread (choice_of_event entry.event) (next_in (before_event p s entry) entry.thread) is done' in
+    record {
+      holds = record { event = e; step = step'; done = done'; other = other };
+      first = λ w less f. before_other_event p s entry w less r h a e step' f;
+    }
+
+-- ---- an entry that the machine makes
+
+running_before : (p : Program) (s : State) (i n : ℕ) (e : Event) (b : Bool) → AreSilent p i n s → MakesEventBy p (after_silent p i n s) i e b → IsRunning s i
+running_before p s i (suc n) e b h q = h.0.able
+running_before p s i zero e true h q = q.able
+running_before p s i zero e false h q = q.step.able
+
+silent_makes_none : (p : Program) (s : State) (i : ℕ) (e : Event) → next_in s i ≡ next.Silent → (b : Bool) → b ≡ false → MakesEventBy p s i e b → ⊥
+silent_makes_none p s i e n true h q = true≢false h
+silent_makes_none p s i e n false h q = at_access_not_silent (next_in s i) n (did_access p s i (choice_of_event e) (next_in s i) e q.event)
+
+finish_spends_none : (p : Program) (s : State) (i : ℕ) (e : Event) → next_in s i ≡ next.Access access.Finish → (b : Bool) → b ≡ true → MakesEventBy p s i e b → ⊥
+finish_spends_none p s i e n true h q = q.unfinished n
+finish_spends_none p s i e n false h q = false≢true h
+
+makes_step : (p : Program) (s : State) (i : ℕ) (e : Event) (b : Bool) → b ≡ false → MakesEventBy p s i e b → IsStep s i (choice_of_event e) × ((after_step p s i (choice_of_event e)).done ≡ stepped.Did e)
+makes_step p s i e true h q = absurd (true≢false h)
+makes_step p s i e false h q = (q.step, q.event)
+
+pub entry_has_no_reason : (p : Program) (s : State) (entry : Entry) (w : Why) → IsEntry p s entry → IsReason p s entry w → ⊥
+entry_has_no_reason p s entry why.Thread h q = running_stays s entry.thread (running_before p s entry.thread entry.silent entry.event (is_spend entry.event) h.silent h.event) q
+entry_has_no_reason p s entry why.After h q = running_unfailed s entry.thread (running_before p s entry.thread entry.silent entry.event (is_spend entry.event) h.silent h.event) q
+entry_has_no_reason p s entry (why.Silent did) h (inl r) = silent_within p entry.thread entry.silent did s h.silent r.fewer r.access
+entry_has_no_reason p s entry (why.Silent did) h (inr (inl r)) =
+    silent_makes_none p (before_event p s entry) entry.thread entry.event (ap (λ (n : ℕ). next_in (after_silent p entry.thread n s) entry.thread) (sym r.all) ∙ r.silent) (is_spend entry.event) r.event h.event
+entry_has_no_reason p s entry (why.Silent did) h (inr (inr r)) =
+    finish_spends_none p (before_event p s entry) entry.thread entry.event (ap (λ (n : ℕ). next_in (after_silent p entry.thread n s) entry.thread) (sym r.all) ∙ r.finish) (is_spend entry.event) r.event h.event
+entry_has_no_reason p s entry why.Choice h q = q.none (makes_step p (before_event p s entry) entry.thread entry.event (is_spend entry.event) q.event h.event).0
+entry_has_no_reason p s entry (why.Event is) h q =
+    let m = makes_step p (before_event p s entry) entry.thread entry.event (is_spend entry.event) q.event h.event in
+    let same : stepped.Did is ≡ stepped.Did entry.event = sym q.done ∙ m.1 in
+    q.other (cc)
+
+-- ---- one reason
+
+less_or_not : (a b : ℕ) → (a < b) ⊎ (b ≤ a)
+less_or_not zero zero = inr (omega arith)
+less_or_not zero (suc b) = inl (omega arith)
+less_or_not (suc a) zero = inr (omega arith)
+less_or_not (suc a) (suc b) =
+    elim (less_or_not a b) as (λ _. (suc a < suc b) ⊎ (suc b ≤ suc a)) [ inl h ↦ inl (omega arith) | inr h ↦ inr (omega arith) ]
+
+-- the code made so many silent steps, and no more than the entry's
+other_silent_steps : (p : Program) (s : State) (entry : Entry) (did : ℕ) → HasOtherSilent p s entry did → AreSilent p entry.thread did s × ((IsAtAccess (next_in (after_silent p entry.thread did s) entry.thread) × (did < entry.silent)) ⊎ (did ≡ entry.silent))
+other_silent_steps p s entry did (inl r) = (r.steps, inl (r.access, r.fewer))
+other_silent_steps p s entry did (inr (inl r)) = (r.steps, inr r.all)
+other_silent_steps p s entry did (inr (inr r)) = (r.steps, inr r.all)
+
+no_more : (p : Program) (s : State) (entry : Entry) (did : ℕ) → HasOtherSilent p s entry did → entry.silent < did → ⊥
+no_more p s entry did (inl r) l = absurd (omega (arith, r.fewer))
+no_more p s entry did (inr (inl r)) l = absurd (omega (arith, r.all))
+no_more p s entry did (inr (inr r)) l = absurd (omega (arith, r.all))
+
+not_fewer : (p : Program) (s : State) (entry : Entry) (a b : ℕ) → HasOtherSilent p s entry a → HasOtherSilent p s entry b → a < b → ⊥
+not_fewer p s entry a b h q l =
+    elim (other_silent_steps p s entry a h).1 as (λ _. ⊥) [
+      | inl r ↦ silent_within p entry.thread b a s (other_silent_steps p s entry b q).0 l r.0
+      | inr e ↦ absurd (no_more p s entry b q (omega arith))
+    ]
+
+pub one_other_silent : (p : Program) (s : State) (entry : Entry) (a b : ℕ) → HasOtherSilent p s entry a → HasOtherSilent p s entry b → a ≡ b
+one_other_silent p s entry a b h q =
+    elim (less_or_not a b) as (λ _. a ≡ b) [
+      | inl l ↦ absurd (not_fewer p s entry a b h q l)
+      | inr l ↦ elim (less_or_not b a) as (λ _. a ≡ b) [ inl g ↦ absurd (not_fewer p s entry b a q h g) | inr g ↦ omega arith ]
+    ]
+
+-- ---- steps of the code
+
+pub there_in : (p : Program) (h : Held) (i : ℕ) → IsRunning (state_in p h) i → i < length h.locals
+there_in p h i r = omega (arith, r.there, length-map h.locals (stack_in p))
+
+running_by : (p : Program) (s : State) (i : ℕ) (n : Next) → n ≡ next.Silent → IsRunning s i → IsRunning (step_by p s i Plain n).state i
+running_by p s i next.Silent e r = record {
+  there = omega (arith, r.there, length-set s.locals i (advanced p (local_in s i)));
+  going = r.going;
+  running = r.running;
+}
+running_by p s i (next.Access a) e r = cc
+
+allowed_by : (s : State) (i : ℕ) (n : Next) → n ≡ next.Silent → Allows s.memory (view_in s i) Plain n
+allowed_by s i next.Silent e = refl
+allowed_by s i (next.Access a) e = cc
+
+silent_step : (s : State) (i : ℕ) → IsRunning s i → next_in s i ≡ next.Silent → IsStep s i Plain
+silent_step s i r e = record { able = r; allowed = allowed_by s i (next_in s i) e }
+
+-- one silent step more
+pub more_silent : (p : Program) (i n : ℕ) (s t u : State) → AreSilent p i n s → t ≡ after_silent p i n s → IsRunning t i → next_in t i ≡ next.Silent → (after_step p t i Plain).state ≡ u
+    → IsRunning u i × AreSilent p i (n + 1) s × (u ≡ after_silent p i (n + 1) s)
+more_silent p i n s t u h e r q made =
+    let step : IsStep t i Plain = silent_step t i r q in
+    let silent : AreSilent p i (suc n) s = silent_more p i n s h (subst (λ (x : State). IsStep x i Plain) e step) (subst (λ (x : State). next_in x i ≡ next.Silent) e q) in
+    let after : u ≡ after_silent p i (suc n) s = sym made ∙ ap (λ (x : State). (after_step p x i Plain).state) e ∙ sym (after_silent-more p i n s) in (
+      subst (λ (x : State). IsRunning x i) made (running_by p t i (next_in t i) q r),
+      subst (λ (k : ℕ). AreSilent p i k s) (sym (add-one n)) silent,
+      subst (λ (k : ℕ). u ≡ after_silent p i k s) (sym (add-one n)) after,
+    )
+
+-- the code is silent or at an access
+pub at_access : (n : Next) → (n ≡ next.Silent → ⊥) → IsAtAccess n
+at_access next.Silent h = absurd (h refl)
+at_access (next.Access a) h = tt
+
+at_end_or_not : (n : Next) → (n ≡ next.Access access.Finish) ⊎ (n ≡ next.Access access.Finish → ⊥)
+at_end_or_not next.Silent = inr (λ (e : next.Silent ≡ next.Access access.Finish). cc)
+at_end_or_not (next.Access access.Finish) = inl refl
+at_end_or_not (next.Access (access.NaRead x)) = inr (λ (e : next.Access (access.NaRead x) ≡ next.Access access.Finish). cc)
+at_end_or_not (next.Access (access.NaWrite x v)) = inr (λ (e : next.Access (access.NaWrite x v) ≡ next.Access access.Finish). cc)
+at_end_or_not (next.Access (access.Read y o)) = inr (λ (e : next.Access (access.Read y o) ≡ next.Access access.Finish). cc)
+at_end_or_not (next.Access (access.Write y o v)) = inr (λ (e : next.Access (access.Write y o v) ≡ next.Access access.Finish). cc)
+at_end_or_not (next.Access (access.Update y o k)) = inr (λ (e : next.Access (access.Update y o k) ≡ next.Access access.Finish). cc)
+at_end_or_not (next.Access (access.Print v)) = inr (λ (e : next.Access (access.Print v) ≡ next.Access access.Finish). cc)
+at_end_or_not (next.Access (access.Fail cause)) = inr (λ (e : next.Access (access.Fail cause) ≡ next.Access access.Finish). cc)
+at_end_or_not (next.Access access.Spend) = inr (λ (e : next.Access access.Spend ≡ next.Access access.Finish). cc)
+
+-- a thread that runs and cannot spend its budget is at its end
+pub unspendable : (s : State) (i : ℕ) → IsRunning s i → (IsSpendable s i → ⊥) → next_in s i ≡ next.Access access.Finish
+unspendable s i r h =
+    elim (at_end_or_not (next_in s i)) as (λ _. next_in s i ≡ next.Access access.Finish) [
+      | inl e ↦ e
+      | inr e ↦ absurd (h (record { able = r; unfinished = e }))
+    ]
+
+pub spend_refused : (p : Program) (s : State) (entry : Entry) → IsRunning s entry.thread → is_spend entry.event ≡ true → (IsSpendable s entry.thread → ⊥) → IsReasonOfEvent p s entry (why.Silent entry.silent)
+spend_refused p s entry r e h = spends_at_the_end p s entry (unspendable s entry.thread r h) e
+
+-- the step of the machine has the event of the entry
+pub makes_event : (p : Program) (s : State) (i : ℕ) (e : Event) → is_spend e ≡ false → IsStep s i (choice_of_event e) → (after_step p s i (choice_of_event e)).done ≡ stepped.Did e → MakesEvent p s i e
+makes_event p s i e q step done = let P : Bool → Type 0 = MakesEventBy p s i e in subst P (sym q) (record { step = step; event = done })
+
+-- ---- what the machine's step tells of the event
+
+pub did_event : (p : Program) (s u : State) (i : ℕ) (ch : Choice) (e is : Event) (d : Stepped) → ch ≡ choice_of_event e → is_spend e ≡ false → IsStep s i ch
+    → after_step p s i ch ≡ record { state = u; done = d } → d ≡ stepped.Did is → is ≡ e → MakesEvent p s i e
+did_event p s u i ch e is d q f step made told same =
+    makes_event p s i e f (subst (λ (x : Choice). IsStep s i x) q step)
+    (ap (λ (x : Choice). (after_step p s i x).done) (sym q) ∙ ap (λ (t : StepTaken). t.done) made ∙ told ∙ ap stepped.Did same)
+
+pub did_other : (p : Program) (s u : State) (entry : Entry) (ch : Choice) (is : Event) (d : Stepped) → ch ≡ choice_of_event entry.event → is_spend entry.event ≡ false → IsStep s entry.thread ch
+    → after_step p s entry.thread ch ≡ record { state = u; done = d } → d ≡ stepped.Did is → is ≢ entry.event → IsReasonOfEvent p s entry (why.Event is)
+did_other p s u entry ch is d q f step made told other =
+    has_other_event p s entry is f (subst (λ (x : Choice). IsStep s entry.thread x) q step)
+    (ap (λ (x : Choice). (after_step p s entry.thread x).done) (sym q) ∙ ap (λ (t : StepTaken). t.done) made ∙ told) other
+
+pub from_true : (P : Type 0) (b : Bool) → (IsTrue b ↔ P) → b ≡ true → P
+from_true P b h e = h.0 e
+
+pub from_false : (P : Type 0) (b : Bool) → (IsTrue b ↔ P) → b ≡ false → P → ⊥
+from_false P b h e q = true≢false (sym (h.1 q) ∙ e)
+
+pub no_choice : (p : Program) (h k : Held) (entry : Entry) (ch : Choice) (b : Bool) → k ≡ h → ch ≡ choice_of_event entry.event → is_spend entry.event ≡ false
+    → (IsStep (state_in p h) entry.thread ch → ⊥) → (IsTrue b ↔ (next_in (state_in p k) entry.thread ≡ next.Silent)) → b ≡ false → IsReasonOfEvent p (state_in p h) entry why.Choice
+no_choice p h k entry ch b same q f none told fails =
+    has_no_choice p (state_in p h) entry
+    (at_access (next_in (state_in p h) entry.thread) (λ e. from_false (next_in (state_in p k) entry.thread ≡ next.Silent) b told fails (subst (λ (x : Held). next_in (state_in p x) entry.thread ≡ next.Silent) (sym same) e)))
+    f (λ step. none (subst (λ (x : Choice). IsStep (state_in p h) entry.thread x) (sym q) step))
+
+-- ---- the whole entry
+
+pub entry_made : (p : Program) (s t : State) (entry : Entry) → AreSilent p entry.thread entry.silent s → t ≡ before_event p s entry → MakesEvent p t entry.thread entry.event → IsEntry p s entry
+entry_made p s t entry h e made = record { silent = h; event = subst (λ (x : State). MakesEvent p x entry.thread entry.event) e made }
+
+pub state_made : (p : Program) (s t u : State) (entry : Entry) → t ≡ before_event p s entry → u ≡ after_event p t entry.thread entry.event → u ≡ after_entry p s entry
+state_made p s t u entry e made = made ∙ ap (λ (x : State). after_event p x entry.thread entry.event) e
