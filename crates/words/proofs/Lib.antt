@@ -1,0 +1,15 @@
+pub mod Forms
+pub mod Steps
+pub mod Reading
+pub mod Spelled
+pub mod Level
+pub mod App
+pub mod NumberTexts
+pub mod Allowed
+pub mod Values
+pub mod Agreement
+pub mod Settings
+pub mod Meanings
+pub mod NumberLists
+pub mod DrawingTexts
+pub mod WordTexts

@@ -1,0 +1,14 @@
+-- The words as the texts that clap is handed.
+use Rattle.std.proofs.Common.{◌≡◌, ◌∙◌, ◌+◌, ◌<◌, ℕ, sym, ap, List, [], ◌∷◌, ◌++◌, length, get_or, map, take}
+use Rattle.std.specs.Borrow.{Bor}
+use Rattle.std.proofs.lemmas.List.{map-append, take_more}
+use Rattle.words.specs.Spelling.{Text}
+
+abbrev pub texts_of : List (Bor Text) → List Text
+texts_of = map (λ x. x.now)
+
+-- one word more
+pub texts_of-append : (words : List Text) (texts : List (Bor Text)) (t : Bor Text) (i : ℕ) (d : Text) → i < length words → texts_of texts ≡ take i words
+    → t.now ≡ get_or words i d → texts_of (texts ++ t ∷ []) ≡ take (i + 1) words
+texts_of-append words texts t i d below same is =
+    map-append (λ (x : Bor Text). x.now) texts (t ∷ []) ∙ ap (λ ts. ts ++ t.now ∷ []) same ∙ ap (λ w. take i words ++ w ∷ []) is ∙ sym (take_more words i d below)

@@ -1,0 +1,67 @@
+-- The command that words mean.
+use Rattle.std.specs.Prelude.{◌≡◌, ℕ, List, [], ◌∷◌, Option, Some, None, codes}
+use Rattle.words.specs.Commands.{check_options, replay_options, walk_options}
+use Rattle.words.specs.Numbers.{IsNumber, AreNumbers}
+use Rattle.words.specs.Options.{Allows, Options, value_of}
+use Rattle.words.specs.Spelling.{Setting, Spells, Text}
+use Rattle.words.specs.declared.command.Command.{Command}
+use Rattle.words.specs.declared.command.Command.TheVariants.{Check, Replay, Walk}
+use Rattle.words.specs.declared.command.Drawing.{Drawing}
+use Rattle.words.specs.declared.command.Drawing.TheVariants.{Seed, Picks}
+
+abbrev pub name_of : Command → Text
+name_of Check = codes "check"
+name_of (Walk order draws steps) = codes "walk"
+name_of Replay = codes "replay"
+
+abbrev pub options_of : Command → Options
+options_of Check = check_options
+options_of (Walk order draws steps) = walk_options
+options_of Replay = replay_options
+
+-- the number that a value gives, from low to high, or the default where the option is left out
+abbrev pub GivesNumber : ℕ → ℕ → ℕ → Option Text → ℕ → Type 0
+GivesNumber low high default None n = n ≡ default
+GivesNumber low high default (Some text) n = IsNumber low high text n
+
+-- the numbers that a value lists, each from 0 to high, or none where the option is left out
+abbrev pub GivesNumbers : ℕ → Option Text → List ℕ → Type 0
+GivesNumbers high None ns = ns ≡ []
+GivesNumbers high (Some text) ns = AreNumbers high text ns
+
+-- the numbers that a value lists, each from 0 to high, of an option that is there
+abbrev pub ListsNumbers : ℕ → Option Text → List ℕ → Type 0
+ListsNumbers high None ns = ⊥
+ListsNumbers high (Some text) ns = AreNumbers high text ns
+
+-- up to 2^64 - 1, and 0 where it is left out
+abbrev pub GivesSeed : List Setting → ℕ → Type 0
+GivesSeed settings seed = GivesNumber 0 18446744073709551615 0 (value_of (codes "seed") settings) seed
+
+-- from 1 to 16384, and 1000 where it is left out
+abbrev pub GivesSteps : List Setting → ℕ → Type 0
+GivesSteps settings steps = GivesNumber 1 16384 1000 (value_of (codes "steps") settings) steps
+
+-- numbers of threads up to 15, and the empty list where it is left out
+abbrev pub GivesOrder : List Setting → List ℕ → Type 0
+GivesOrder settings order = GivesNumbers 15 (value_of (codes "order") settings) order
+
+-- picks up to 2^32 - 1, without a seed, or else a seed
+abbrev pub GivesDraws : List Setting → Drawing → Type 0
+GivesDraws settings (Seed seed) = (value_of (codes "picks") settings ≡ None) × GivesSeed settings seed
+GivesDraws settings (Picks list) = (value_of (codes "seed") settings ≡ None) × ListsNumbers 4294967295 (value_of (codes "picks") settings) list
+
+-- the settings give the command its values
+abbrev pub GivesValues : List Setting → Command → Type 0
+GivesValues settings Check = Unit {0}
+GivesValues settings (Walk order draws steps) = GivesOrder settings order × GivesDraws settings draws × GivesSteps settings steps
+GivesValues settings Replay = Unit {0}
+
+-- the first word is the command, and the rest spell settings that its options allow and that give its values
+pub record Means (words : List Text) (command : Command) : Type 0 where
+  pub rest : List Text
+  pub settings : List Setting
+  pub first : words ≡ name_of command ∷ rest
+  pub spells : Spells settings rest
+  pub allows : Allows (options_of command) settings
+  pub values : GivesValues settings command

@@ -1,0 +1,56 @@
+//! What the words of a command line may ask for.
+ghost use Rattle.std.specs.Prelude.{◌≡◌};
+ghost use Rattle.words.specs.declared.command.WordsFault.TheVariants.{NoMemory};
+
+use std::alloc::{AllocError, AllocFailed};
+use values_undef::Turns;
+
+/// Where the choices of a walk come from.
+#[derive(Debug, Drop)]
+pub enum Drawing {
+    /// Each thread draws from a generator of random numbers that this number starts.
+    Seed { seed: u64 },
+    /// The choices follow this list.
+    Picks { list: Turns },
+}
+
+/// What the words ask for.
+#[derive(Debug, Drop)]
+pub enum Command {
+    /// Read a program and say whether it is one.
+    Check,
+    /// Run a program on one thread: whose turn it is at first, where the choices come from, and
+    /// how many steps each of its threads may make.
+    Walk {
+        order: Turns,
+        draws: Drawing,
+        steps: u64,
+    },
+    /// Judge the journal of a run.
+    Replay,
+}
+
+/// Why words gave no command.
+#[derive(Debug, Drop, Clone, Copy, PartialEq, Eq)]
+pub enum WordsFault {
+    /// The words ask for nothing.
+    Refused,
+    /// There was no memory to read them.
+    NoMemory,
+}
+
+impl From<AllocError> for WordsFault {
+    ghost from_gives = { λ _ e. e ≡ NoMemory };
+
+    fn from(_error: AllocError) -> WordsFault {
+        WordsFault::NoMemory
+    }
+}
+
+impl<T: Drop> From<AllocFailed<T>> for WordsFault {
+    ghost from_gives = { λ _ e. e ≡ NoMemory };
+
+    fn from(_error: AllocFailed<T>) -> WordsFault {
+        WordsFault::NoMemory
+    }
+}

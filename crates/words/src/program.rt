@@ -1,0 +1,57 @@
+//! The program's commands and their options, as `clap` takes them.
+ghost use Rattle.std.specs.Prelude.{◌≡◌, List, [], ◌∷◌, Bool, true, false, IfOk, codes};
+ghost use Rattle.clap.specs.Words.{app_of, rule_of};
+ghost use Rattle.clap.specs.declared.builder.command.Command.TheViews.{out-Command as fields_of};
+ghost use Rattle.words.specs.Program.{clap_rule, clap_command, clap_program};
+ghost use Rattle.words.specs.Commands.{commands, walk_options};
+
+use clap::{Arg, ArgAction, Command};
+use std::alloc::{AllocError, Global};
+
+/// An option that takes one value.
+fn option<'a>(alloc: Global, name: &'a str) -> Arg<'a>
+    ensures rule { rule_of result ≡ clap_rule (name.entry.now, false) }
+    ensures local { result.global ≡ false }
+{
+    Arg::new(alloc, name).long(name).action(ArgAction::Set)
+}
+
+fn check<'a>(alloc: Global) -> Command<'a>
+    ensures app { app_of result ≡ clap_command (codes "check", []) }
+    ensures local { (fields_of result).has_globals ≡ false }
+{
+    Command::new(alloc, "check")
+}
+
+fn replay<'a>(alloc: Global) -> Command<'a>
+    ensures app { app_of result ≡ clap_command (codes "replay", []) }
+    ensures local { (fields_of result).has_globals ≡ false }
+{
+    Command::new(alloc, "replay")
+}
+
+fn walk<'a>(alloc: Global) -> Result<Command<'a>, AllocError>
+    ensures app { IfOk result (λ c. app_of c ≡ clap_command (codes "walk", walk_options)) }
+    ensures local { IfOk result (λ c. (fields_of c).has_globals ≡ false) }
+{
+    Command::new(alloc, "walk")
+        .arg(option(alloc, "order"))?
+        .arg(option(alloc, "picks"))?
+        .arg(option(alloc, "seed"))?
+        .arg(option(alloc, "steps"))
+}
+
+/// The program, with help and version switched off.
+pub(crate) fn program<'a>(alloc: Global) -> Result<Command<'a>, AllocError>
+    ensures { IfOk result (λ c. app_of c ≡ clap_program commands) }
+{
+    Command::new(alloc, "seqopt")
+        .no_binary_name(true)
+        .disable_help_flag(true)
+        .disable_help_subcommand(true)
+        .disable_version_flag(true)
+        .subcommand_required(true)
+        .subcommand(check(alloc))?
+        .subcommand(walk(alloc)?)?
+        .subcommand(replay(alloc))
+}

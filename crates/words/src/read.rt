@@ -1,0 +1,201 @@
+//! The command of the words.
+ghost use Rattle.std.specs.List.{list_any};
+ghost use Rattle.std.specs.Str.{bytes_eq};
+ghost use Rattle.std.specs.Prelude.{◌≡◌, None, ℕ, List, [], IfErr, IfOk, MatchResult, ◌↔◌, ◌≤◌, codes, map};
+ghost use Rattle.clap.specs.Words.{fault_of, found_of, kind_of, rows_of, subcommand_of, subcommand_rows_of};
+ghost use Rattle.words.specs.Commands.{commands};
+ghost use Rattle.words.specs.Meaning.{Means, GivesDraws, GivesNumber, GivesNumbers, GivesSeed};
+ghost use Rattle.words.specs.Numbers.{AreNumbers};
+ghost use Rattle.words.specs.Reading.{IsPicks, IsSeed, ListsPicks, ReadsCommand};
+ghost use Rattle.words.specs.declared.command.Drawing.{Drawing};
+ghost use Rattle.words.specs.Options.{value_of};
+ghost use Rattle.words.specs.Program.{clap_program, row_of};
+ghost use Rattle.words.specs.Spelling.{Setting};
+
+use crate::command::{Command, Drawing, WordsFault};
+use crate::numbers::{number_within, numbers_within};
+use crate::program::program;
+use clap::ArgMatches;
+use clap::error::ErrorKind;
+use std::alloc::{AllocError, Global};
+use values_undef::{Turns, Words};
+
+fn fault(error: &clap::Error) -> WordsFault
+    ensures { (result ≡ WordsFault.NoMemory) ↔ (kind_of error.now ≡ ErrorKind.OutOfMemory) }
+{
+    match error.kind() {
+        ErrorKind::OutOfMemory => WordsFault::NoMemory,
+        _ => WordsFault::Refused,
+    }
+}
+
+/// The words as texts.
+fn texts<'a>(alloc: Global, words: &'a Words) -> Result<Vec<&'a str>, AllocError>
+    ensures { IfOk result (λ v. map (λ x. x.now) v.items ≡ words.entry.now) }
+{
+    let mut texts = Vec::new(alloc);
+    for word in words.words.iter() {
+        texts.push(word.text.as_str())?;
+    }
+    Ok(texts)
+}
+
+/// What `clap` reads of the words.
+fn matches<'a>(alloc: Global, words: &'a [&'a str]) -> Result<ArgMatches<'a>, WordsFault>
+    ensures ok { IfOk result (λ m. (fault_of (clap_program commands) (map (λ x. x.now) words.entry.now) ≡ [])
+        × (subcommand_rows_of m ≡ subcommand_of (clap_program commands) (map (λ x. x.now) words.entry.now))) }
+    ensures err { IfErr result (λ e. e ≡ WordsFault.Refused → fault_of (clap_program commands) (map (λ x. x.now) words.entry.now) ≡ [] → ⊥) }
+{
+    let program = match program(alloc) {
+        Ok(program) => program,
+        Err(_) => return Err(WordsFault::NoMemory),
+    };
+    match program.try_get_matches_from(words) {
+        Ok(matches) => Ok(matches),
+        Err(error) => Err(fault(&error)),
+    }
+}
+
+/// The number that an option gives, or the default.
+fn number_or(
+    settings: &ArgMatches,
+    name: &str,
+    low: u64,
+    high: u64,
+    default: u64,
+) -> Result<u64, WordsFault>
+    ensures { (os : List Setting) → rows_of (found_of settings.now) ≡ map row_of os
+        → MatchResult result (GivesNumber low high default (value_of name.now os))
+        (λ e. (e ≡ WordsFault.Refused) × ((n : ℕ) → GivesNumber low high default (value_of name.now os) n → ⊥)) }
+{
+    match settings.get_str(name) {
+        None => Ok(default),
+        Some(text) => number_within(text, low, high),
+    }
+}
+
+/// The numbers that an option lists, or none.
+fn numbers_or_none(
+    alloc: Global,
+    settings: &ArgMatches,
+    name: &str,
+    high: u32,
+) -> Result<Turns, WordsFault>
+    ensures { (os : List Setting) → rows_of (found_of settings.now) ≡ map row_of os
+        → MatchResult result (λ t. GivesNumbers high (value_of name.now os) t)
+        (λ e. e ≡ WordsFault.Refused → (ns : List ℕ) → GivesNumbers high (value_of name.now os) ns → ⊥) }
+{
+    match settings.get_str(name) {
+        None => Ok(Turns {
+            turns: Vec::new(alloc),
+        }),
+        Some(text) => listed(alloc, text, high),
+    }
+}
+
+fn listed(alloc: Global, text: &str, high: u32) -> Result<Turns, WordsFault>
+    ensures { MatchResult result (λ t. AreNumbers high text.now t)
+        (λ e. e ≡ WordsFault.Refused → (ns : List ℕ) → AreNumbers high text.now ns → ⊥) }
+{
+    let turns = numbers_within(alloc, text, high)?;
+    Ok(Turns { turns })
+}
+
+/// Where the choices of a walk come from: picks, or else a seed.
+fn draws(alloc: Global, settings: &ArgMatches) -> Result<Drawing, WordsFault>
+    ensures { (os : List Setting) → rows_of (found_of settings.now) ≡ map row_of os
+        → MatchResult result (GivesDraws os) (λ e. e ≡ WordsFault.Refused → (d : Drawing) → GivesDraws os d → ⊥) }
+{
+    match settings.get_str("picks") {
+        None => seed(settings),
+        Some(text) => picks(alloc, settings, text),
+    }
+}
+
+fn seed(settings: &ArgMatches) -> Result<Drawing, WordsFault>
+    ensures { (os : List Setting) → rows_of (found_of settings.now) ≡ map row_of os
+        → MatchResult result (λ d. IsSeed os d) (λ e. e ≡ WordsFault.Refused → (n : ℕ) → GivesSeed os n → ⊥) }
+{
+    let seed = number_or(settings, "seed", 0, u64::MAX, 0)?;
+    Ok(Drawing::Seed { seed })
+}
+
+fn picks(alloc: Global, settings: &ArgMatches, text: &str) -> Result<Drawing, WordsFault>
+    ensures { (os : List Setting) → rows_of (found_of settings.now) ≡ map row_of os
+        → MatchResult result (λ d. IsPicks os text.now d)
+        (λ e. e ≡ WordsFault.Refused → (ns : List ℕ) → value_of (codes "seed") os ≡ None → AreNumbers 4294967295 text.now ns → ⊥) }
+{
+    match settings.get_str("seed") {
+        None => picked(alloc, text),
+        Some(_) => Err(WordsFault::Refused),
+    }
+}
+
+fn picked(alloc: Global, text: &str) -> Result<Drawing, WordsFault>
+    ensures { MatchResult result (λ d. ListsPicks text.now d)
+        (λ e. e ≡ WordsFault.Refused → (ns : List ℕ) → AreNumbers 4294967295 text.now ns → ⊥) }
+{
+    let list = listed(alloc, text, u32::MAX)?;
+    Ok(Drawing::Picks { list })
+}
+
+fn walk(alloc: Global, settings: &ArgMatches) -> Result<Command, WordsFault>
+    ensures { (os : List Setting) → rows_of (found_of settings.now) ≡ map row_of os → ReadsCommand (codes "walk") os result }
+{
+    let order = numbers_or_none(alloc, settings, "order", 15)?;
+    let draws = draws(alloc, settings)?;
+    let steps = number_or(settings, "steps", 1, 16384, 1000)?;
+    Ok(Command::Walk {
+        order,
+        draws,
+        steps,
+    })
+}
+
+/// The command of a name, with the values that its settings give.
+fn command(alloc: Global, name: &str, settings: &ArgMatches) -> Result<Command, WordsFault>
+    ensures { (os : List Setting) → rows_of (found_of settings.now) ≡ map row_of os → ReadsCommand name.now os result }
+{
+    match name {
+        "check" => Ok(Command::Check),
+        "walk" => walk(alloc, settings),
+        "replay" => Ok(Command::Replay),
+        _ => Err(WordsFault::Refused),
+    }
+}
+
+fn has_dashes(words: &Words) -> bool
+    ensures { result ≡ list_any (λ w. bytes_eq w (codes "--")) words.now }
+{
+    words.words.iter().any(|word| word.text.as_str() == "--")
+}
+
+/// The command that the words mean. They are refused exactly where they mean none: where there are
+/// no words; where the first is no command; where another word is no option of the command, or an
+/// option comes twice or has no value; where a required option is missing; where a value is out
+/// of its range, or `--picks` stands with `--seed`. There is no help, no version, no short option and
+/// no abbreviation. A number is `0` or digits with no leading zero; numbers are listed by commas.
+///
+/// - `check`
+/// - `walk`: `--order` (1 to 4096 numbers from 0 to 15, else the empty list), `--picks` (1 to 4096
+///   numbers from 0 to 4294967295), `--seed` (a number of 64 bits, else 0), `--steps` (1 to 16384,
+///   else 1000)
+/// - `replay`
+pub fn read_words(alloc: Global, words: &Words) -> Result<Command, WordsFault>
+    ensures meant { IfOk result (λ c. Means words.now c) }
+    // What words mean is never refused, and never read as another command.
+    ensures only { (c : Command) → Means words.now c → MatchResult result (λ r. r ≡ c) (λ e. e ≡ WordsFault.NoMemory) }
+{
+    if has_dashes(words) {
+        return Err(WordsFault::Refused);
+    }
+    let texts = texts(alloc, words)?;
+    let matches = match matches(alloc, texts.as_slice()) {
+        Ok(matches) => matches,
+        Err(fault) => return Err(fault),
+    };
+    match matches.subcommand() {
+        Some((name, settings)) => command(alloc, name, settings),
+        None => Err(WordsFault::Refused),
+    }
+}
