@@ -1,0 +1,5 @@
+pub mod Supported
+pub mod Lines
+pub mod Gives
+pub mod Words
+pub mod Reading
