@@ -9,7 +9,6 @@ pub mod names;
 pub mod program;
 mod rules;
 pub mod statement;
-mod straight;
 pub mod text_order;
 
 pub use checks::{fits, well_formed};
@@ -19,7 +18,6 @@ pub use program::{
     Function, Functions, Location, Locations, Name, Names, Numbers, Program, Start, Starts,
 };
 pub use statement::{Atom, Atoms, Block, Rmw, Stmt};
-pub use straight::is_straight;
 pub use text_order::{sites, sites_within};
 
 #[cfg(test)]

@@ -111,7 +111,6 @@ fn every_statement_is_well_formed(rt: HostRuntime) -> Result<(), Fail> {
     let alloc = rt.alloc();
     let p = program(alloc, every_statement(alloc)?)?;
     assert!(rt; well_formed(&p));
-    assert!(rt; !is_straight(&p));
     let f = function(alloc, every_statement(alloc)?)?;
     assert!(rt; fits(&p, &f));
     let copy = copy_program(alloc, &p).map_err(|_| "no memory")?;
@@ -190,7 +189,6 @@ fn each_rule_refuses(rt: HostRuntime) -> Result<(), Fail> {
     }
     let mut p = program(alloc, Vec::new(alloc))?;
     assert!(rt; well_formed(&p));
-    assert!(rt; !is_straight(&p));
     p.threads = Items::new(alloc);
     assert!(rt; !well_formed(&p));
     Ok(())

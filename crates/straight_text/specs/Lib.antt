@@ -1,5 +1,0 @@
-pub mod Supported
-pub mod Lines
-pub mod Gives
-pub mod Words
-pub mod Reading

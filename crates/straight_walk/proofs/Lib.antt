@@ -1,9 +1,0 @@
-pub mod Silent
-pub mod KnownLemmas
-pub mod Turn
-pub mod Play
-pub mod LeftLemmas
-pub mod Rounds
-pub mod Events
-pub mod Begin
-pub mod Outputs
