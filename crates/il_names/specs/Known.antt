@@ -1,10 +1,10 @@
 -- The names of a text, and what a statement of it may speak of.
-use Rattle.std.specs.Prelude.{ℕ, ◌+◌, List, [], ◌∷◌, ◌++◌, map, length, take, drop, ◌-◌, ◌^◌, ◌<◌, position, Bool, true, false, not, Option, if◌then◌else◌}
+use Rattle.std.specs.Prelude.{ℕ, ◌+◌, List, [], ◌∷◌, ◌++◌, length, take, drop, ◌-◌, ◌^◌, ◌<◌, position, Bool, true, false, not, Option, if◌then◌else◌}
 use Rattle.std.specs.List.{list_any}
 use Rattle.std.specs.Str.{bytes_eq}
 use Rattle.il_grammar.specs.declared.syntax.Span.{Span}
 use Rattle.il_grammar.specs.declared.syntax.RawLocation.{RawLocation}
-use Rattle.il_grammar.specs.Grammar.{Snoc, empty, append, Routine, Thread, TextTree}
+use Rattle.il_grammar.specs.Grammar.{Snoc, empty, append, Routine}
 
 -- the bytes of a name
 abbrev pub name_text : List ℕ → Span → List ℕ

@@ -1,6 +1,5 @@
 -- What a text means: its names as numbers. Where its names have faults this says nothing.
-use Rattle.std.specs.Prelude.{ℕ, suc, zero, ℤ, pos, negsuc, List, [], ◌∷◌, ◌++◌, length, Option, Some, None, unwrap_or, nat_le, if◌then◌else◌}
-use Rattle.values_undef.specs.declared.access.Order.{Order}
+use Rattle.std.specs.Prelude.{ℕ, suc, zero, ℤ, pos, negsuc, List, [], ◌∷◌, ◌++◌, Option, Some, None, unwrap_or, nat_le, if◌then◌else◌}
 use Rattle.il_syntax.specs.declared.statement.Atom.{Atom}
 use Rattle.il_syntax.specs.declared.statement.Atom.TheVariants.{Const, Reg}
 use Rattle.il_syntax.specs.declared.statement.Rmw.{Rmw}

@@ -20,7 +20,7 @@ pub struct Names<'a> {
     pub na: Scope<'a>,
     pub atomic: Scope<'a>,
     pub functions: Scope<'a>,
-    pub parameter_counts: Vec<u32>,
+    pub parameter_counts: Vec<usize>,
     pub registers: Scope<'a>,
 }
 
@@ -36,7 +36,8 @@ pub fn text(bytes: &[u8], span: Span) -> &[u8]
     &rest[..end]
 }
 
-fn fault(rule: Rule, place: u32) -> ResolveError
+/// A rule that is broken at a place.
+pub fn fault(rule: Rule, place: u32) -> ResolveError
     ensures { result ≡ ResolveError.Fault (record { rule = rule; place = place }) }
 {
     ResolveError::Fault(NameFault { rule, place })
@@ -92,12 +93,13 @@ pub fn function(names: &Names, name: Span, arguments: usize) -> Result<u32, Reso
         return Err(fault(Rule::C1, name.start));
     };
     match names.parameter_counts.get(number as usize) {
-        Some(count) if arguments == *count as usize => Ok(number),
+        Some(count) if arguments == *count => Ok(number),
         _ => Err(fault(Rule::C6, name.start)),
     }
 }
 
-fn literal_value(literal: Literal) -> i64
+/// The number that a literal stands for, as far as 64 bits go.
+pub fn literal_value(literal: Literal) -> i64
     ensures { result ≡ literal_value literal }
 {
     match literal {

@@ -34,6 +34,13 @@ impl<'a> Scope<'a> {
         }
     }
 
+    /// Whether a name is declared.
+    pub fn contains(&self, name: &[u8]) -> bool
+        ensures { result ≡ stands_among (names self.now) name.now }
+    {
+        self.keys.contains(name)
+    }
+
     fn index(&self, name: &[u8]) -> Option<usize>
         ensures exact { result ≡ number_of (names self.now) name.now }
         ensures within { IfSome result (λ n. n < length (names self.now)) }
