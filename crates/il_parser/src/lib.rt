@@ -6,7 +6,15 @@
 #![tactic(auto)]
 
 mod laws;
+mod program;
 
+pub use il_reader::ParseFault;
 pub use laws::{
-    each_text_spells_or_is_refused, one_first_refusal, one_program_at_most, spelled_is_not_refused,
+    each_text_spells_or_is_refused, first_name_fault_is_foremost, name_faults_are_in_order,
+    one_first_refusal, one_program_at_most, spelled_is_not_refused,
+    spelled_programs_are_well_formed,
 };
+pub use program::parse;
+
+#[cfg(test)]
+mod tests;
