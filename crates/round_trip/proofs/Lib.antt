@@ -1,0 +1,23 @@
+mod Laid
+mod Lexed
+mod Digits
+mod Parts
+mod Lists
+mod Written
+mod Statements
+mod Fits
+mod StatementTexts
+mod Facts
+mod ProgramText
+mod Means
+mod MeaningRead
+mod Names
+mod StatementMeaning
+mod Snocs
+mod Locations
+mod Registers
+mod Functions
+mod FunctionMeaning
+mod FunctionFaults
+mod Threads
+pub mod Whole
