@@ -1,3 +1,5 @@
-pub mod Commands
-pub mod Output
+pub mod Statuses
+pub mod Lines
+pub mod Walks
+pub mod Outputs
 pub mod Answers

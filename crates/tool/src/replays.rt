@@ -1,0 +1,93 @@
+//! `replay`: whether the journal of an input is a run of its program.
+ghost use Rattle.std.specs.Prelude.{◌≡◌, ◌<◌, ◌-◌, ◌^◌, length, IfOk};
+ghost use Rattle.tool.specs.Outputs.{IsReplayOutput, IsReplayRefusal, IsVerdictOutput};
+ghost use Rattle.tool.specs.Lines.{ending_word, why_word, text_rule_word};
+
+use crate::answer::{Output, refused, written};
+use crate::status::Status;
+use message_memory::PlainMemory;
+use replay::{Verdict, Why};
+use replay_text::{TextFault, TextRule, read_replay};
+use std::alloc::Global;
+use values_undef::{Ending, NoMemory};
+
+fn ending_word(ending: Ending) -> &'static str
+    ensures { result.now ≡ ending_word ending }
+{
+    match ending {
+        Ending::Done => "done",
+        Ending::Failed => "failed",
+        Ending::Spent => "spent",
+    }
+}
+
+fn why_word(why: Why) -> &'static str
+    ensures { result.now ≡ why_word why }
+{
+    match why {
+        Why::Thread => "thread",
+        Why::After => "after",
+        Why::Silent { .. } => "silent",
+        Why::Choice => "choice",
+        Why::Event { .. } => "event",
+    }
+}
+
+/// The word for a rule of the input.
+fn rule_word(rule: TextRule) -> &'static str
+    ensures { result.now ≡ text_rule_word rule }
+{
+    match rule {
+        TextRule::J => "J",
+        TextRule::P1 => "P1",
+        TextRule::P2 => "P2",
+        TextRule::P3 => "P3",
+        TextRule::P4 => "P4",
+        TextRule::P5 => "P5",
+        TextRule::C1 => "C1",
+        TextRule::C2 => "C2",
+        TextRule::C3 => "C3",
+        TextRule::C4 => "C4",
+        TextRule::C5 => "C5",
+        TextRule::C6 => "C6",
+        TextRule::C7 => "C7",
+        TextRule::C8 => "C8",
+    }
+}
+
+/// The output for a verdict on a journal that was given with this ending.
+fn told(alloc: Global, given: Ending, verdict: Verdict) -> Result<Output, NoMemory>
+    ensures { IfOk result (λ o. IsVerdictOutput given verdict o.bytes.items o.status) }
+{
+    match verdict {
+        Verdict::Run { ending } if ending == given => {
+            let text = format!(in alloc; "run {}\n", ending_word(ending))?;
+            written(alloc, text.as_str(), Status::Done)
+        }
+        Verdict::Run { ending } => {
+            let text = format!(in alloc; "no end {}\n", ending_word(ending))?;
+            written(alloc, text.as_str(), Status::No)
+        }
+        Verdict::NotAStep { entry, why } => {
+            let text = format!(in alloc; "no entry {entry} {}\n", why_word(why))?;
+            written(alloc, text.as_str(), Status::No)
+        }
+    }
+}
+
+/// The output of `replay` for this input.
+pub(crate) fn replay(alloc: Global, input: &[u8]) -> Result<Output, NoMemory>
+    requires { length input.now < 2 ^ 32 - 1 }
+    ensures { IfOk result (λ o. IsReplayOutput input.now o.bytes.items o.status) }
+{
+    match read_replay(alloc, input) {
+        Ok(read) => {
+            let verdict = replay::replay::<PlainMemory>(alloc, &read.program, &read.journal)?;
+            told(alloc, read.ending, verdict)
+        }
+        Err(TextFault::Refused { rule, line, column }) => {
+            refused(alloc, rule_word(rule), line, column)
+        }
+        Err(TextFault::NoMemory) => Err(NoMemory),
+    }
+}
