@@ -1,6 +1,8 @@
 -- Positions of a program.
 use Rattle.std.proofs.Common.{◌≡◌, ℕ, zero, suc, ◌≤◌, ◌<◌, Bool, Some, Option, List, [], ◌∷◌, length, map, arith, sym, ap, subst, ◌∙◌, slice_get, IsSomeAnd, IfOk, Result, Ok, Err}
 use Rattle.std.specs.List.{AllByRecursion}
+use Rattle.std.specs.Option.{option_map}
+use Rattle.std.proofs.lemmas.Option.{slice_get-map}
 use Rattle.values_undef.specs.declared.value.Val.{Val}
 use Rattle.il_syntax.specs.declared.statement.Atom.{Atom}
 use Rattle.il_syntax.specs.declared.statement.Atom.TheVariants.{Const, Reg}
@@ -9,12 +11,15 @@ use Rattle.il_syntax.specs.declared.statement.Rmw.TheVariants as rmw
 use Rattle.il_syntax.specs.declared.statement.Stmt.TheOpen.{Skip, Copy, Compute, Load, Store, AtomicLoad, AtomicStore, Update, Print, If, While, Call}
 use Rattle.il_syntax.specs.declared.program.Function.{Function}
 use Rattle.il_syntax.specs.declared.program.Program.{Program}
-use Rattle.il_syntax.specs.Statements.{Head}
+use Rattle.il_syntax.specs.declared.statement.Stmt.{Stmt}
+use Rattle.il_syntax.specs.Statements.{Head, head_of, statements_in, site_count}
+use Rattle.il_syntax.proofs.Inner.{heads_of_statements}
 use Rattle.il_paths.specs.Tree.{tree_of, sites_of}
 use Rattle.il_paths.specs.Code.{Code, End, first_head, go}
 use Rattle.il_paths.specs.Sites.{rest_from, next_site}
 use Rattle.il_paths.proofs.Resuming.{at_first, goes_on_in, behind_all, next_bound, heads_next}
 use Rattle.il_paths.proofs.Running.{join-end}
+use Rattle.il_paths.proofs.HeadsInOrder.{sites_agree, heads_at_sites}
 use Rattle.thread_core.specs.Programs.{function_at, body_in, body_of, code_of, IsProperAtom, IsProperUpdate, IsProperHead, IsProperFunction, IsProperProgram}
 use Rattle.thread_core.specs.declared.position.Position.{Position}
 use Rattle.thread_core.specs.Frames.{Frame, Stack, evaluated, loaded, blank, begun, advanced_at, advanced}
@@ -51,6 +56,16 @@ ends_at p f g site end e n l =
 pub stays_at : (p : Program) (f : ℕ) (g : Function) (site next end : ℕ) (holds : Bool) → end ≡ sites_of (tree_of g.body) → next ≡ next_site 0 (tree_of g.body) site holds end → next ≤ sites_of (tree_of g.body)
 stays_at p f g site next end holds n s =
     let h = next_bound 0 (tree_of g.body) site holds end (sites_of (tree_of g.body)) (omega arith) (omega (arith, n)) in omega (arith, h, s)
+
+-- the statement at a site is the next one of what is still to do from there on
+pub head_stands : (g : Function) (site : ℕ) (s : Stmt) → site < site_count g.body.statements → slice_get (statements_in g.body.statements) site ≡ Some s
+    → first_head (rest_from 0 (tree_of g.body) site End) ≡ Some (head_of s)
+head_stands g site s l e =
+    let same = sites_agree g.body in
+    heads_at_sites g.body site (omega (arith, l, same))
+    ∙ ap (λ hs. slice_get hs site) (sym (heads_of_statements g.body.statements))
+    ∙ slice_get-map head_of (statements_in g.body.statements) site
+    ∙ ap (option_map head_of) e
 
 -- the next statement of a position is proper
 pub head_proper : (p : Program) (f : ℕ) (g : Function) (site : ℕ) (h : Head) → IsProperProgram p → function_at p f ≡ Some g → site < sites_of (tree_of g.body) → first_head (rest_from 0 (tree_of g.body) site End) ≡ Some h → IsProperHead p (length g.registers) h

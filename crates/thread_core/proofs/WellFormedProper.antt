@@ -1,5 +1,5 @@
 -- Each well-formed program is one that the machine runs.
-use Rattle.std.proofs.Common.{◌≡◌, ℕ, zero, suc, ◌<◌, ◌≤◌, Bool, true, false, ltb, leb, eqb, List, [], ◌∷◌, length, map, Option, Some, None, slice_get, IsSomeAnd, refl, sym, ap, ◌∙◌, subst, arith}
+use Rattle.std.proofs.Common.{◌≡◌, ℕ, zero, suc, ◌<◌, Bool, true, false, ltb, leb, List, [], ◌∷◌, length, map, slice_get, IsSomeAnd, refl, sym, subst, arith}
 use Rattle.std.specs.Prelude.{◌&&◌}
 use Rattle.std.proofs.lemmas.List.{length-map}
 use Rattle.std.proofs.lemmas.Bool.{and_parts, ltb-true, leb-true, eqb-true, false≢true}
@@ -16,10 +16,10 @@ use Rattle.il_syntax.specs.declared.program.Function.{Function}
 use Rattle.il_syntax.specs.declared.program.Start.{Start}
 use Rattle.il_syntax.specs.declared.program.Program.{Program}
 use Rattle.il_syntax.specs.Statements.{heads_of_all, site_count}
-use Rattle.il_syntax.specs.WellFormed.{Declared, declared_by, params_of, atom_exists, operands_exist, numbers_exist, atomic_location_exists, na_location_exists, is_load_order, is_store_order, order_is_allowed, has_params, arity_agrees, each_statement, function_numbers_exist, function_is_within_limits, thread_numbers_exist, thread_arity_agrees, is_signed_64, is_short, names_of, IsWellFormed}
+use Rattle.il_syntax.specs.WellFormed.{declared_by, params_of, atom_exists, operands_exist, numbers_exist, atomic_location_exists, na_location_exists, is_load_order, is_store_order, order_is_allowed, has_params, arity_agrees, each_statement, function_numbers_exist, function_is_within_limits, thread_numbers_exist, thread_arity_agrees, is_signed_64, is_short, names_of, IsWellFormed}
 use Rattle.il_syntax.specs.Statements.{Head}
 use Rattle.il_paths.specs.Tree.{tree_of}
-use Rattle.il_paths.proofs.HeadsInOrder.{heads_agree, sites_agree, all_heads_of}
+use Rattle.il_paths.proofs.HeadsInOrder.{heads_agree, all_heads_of}
 use Rattle.thread_core.specs.Programs.{function_at, IsProperAtom, IsProperUpdate, IsProperHead, IsProperFunction, IsProperStart, IsProperProgram}
 
 -- ---- tests of a list
@@ -128,12 +128,11 @@ function_proper p f t =
     let registers = and_parts (leb n 64) (list_all is_short f.registers && leb (site_count f.body.statements) 4096) limit.1 in
     let statements = and_parts (list_all is_short f.registers) (leb (site_count f.body.statements) 4096) registers.1 in
     let count = leb-true (site_count f.body.statements) 4096 statements.1 in
-    let same = sites_agree f.body in
     let all = list_tests p n hs numbers.0 t.1 t.2 t.3 t.4 in
     record {
       few = leb-true n 64 registers.0;
       begin = leb-true f.params n params.0;
-      small = omega (arith, count, same);
+      small = count;
       heads = all_heads_of (IsProperHead p n) (tree_of f.body) (subst (AllByRecursion (IsProperHead p n)) (sym (heads_agree f.body)) all);
       result = atom_proper n f.result numbers.1;
     }

@@ -1,5 +1,5 @@
 -- Programs that the machine runs, and the accesses that they make.
-use Rattle.std.specs.Prelude.{◌≡◌, ℕ, ◌<◌, ◌≤◌, ◌^◌, false, length, Option, Some, None, slice_get, IsSomeAnd}
+use Rattle.std.specs.Prelude.{◌≡◌, ℕ, ◌<◌, ◌≤◌, false, length, Option, Some, None, slice_get, IsSomeAnd}
 use Rattle.std.specs.List.{AllByRecursion}
 use Rattle.values_undef.specs.Access.{acquires, releases}
 use Rattle.values_undef.specs.declared.access.Access.{Access}
@@ -14,8 +14,8 @@ use Rattle.il_syntax.specs.declared.statement.Stmt.TheOpen.{Skip, Copy, Compute,
 use Rattle.il_syntax.specs.declared.program.Function.{Function}
 use Rattle.il_syntax.specs.declared.program.Start.{Start}
 use Rattle.il_syntax.specs.declared.program.Program.{Program}
-use Rattle.il_syntax.specs.Statements.{Head}
-use Rattle.il_paths.specs.Tree.{Tree, Empty, tree_of, sites_of}
+use Rattle.il_syntax.specs.Statements.{Head, site_count}
+use Rattle.il_paths.specs.Tree.{Tree, Empty, tree_of}
 use Rattle.il_paths.specs.Code.{Code, placed, AllHeads}
 
 -- the function of this number
@@ -61,12 +61,11 @@ IsProperHead p registers (While a _) = IsProperAtom registers a
 IsProperHead p registers (Call r f args) =
     (r < registers) × IsSomeAnd (function_at p f) (λ g. length args ≡ g.params) × AllByRecursion (IsProperAtom registers) args
 
--- A function whose statements name what it and the program have. `small` is far from the limit of a
--- program's text: it says that sites are numbers of 32 bits.
+-- A function of at most 64 registers and 4096 statements, which name what it and the program have.
 pub record IsProperFunction (p : Program) (f : Function) : Type 0 where
   pub few : length f.registers ≤ 64
   pub begin : f.params ≤ length f.registers
-  pub small : sites_of (tree_of f.body) < 2 ^ 31
+  pub small : site_count f.body.statements ≤ 4096
   pub heads : AllHeads (IsProperHead p (length f.registers)) (tree_of f.body)
   pub result : IsProperAtom (length f.registers) f.result
 

@@ -9,11 +9,12 @@ ghost use Rattle.il_paths.specs.Code.{first_head};
 ghost use Rattle.il_paths.specs.Sites.{rest_from};
 ghost use Rattle.thread_core.specs.Programs.{function_at, body_of, IsProperAtom, IsProperUpdate, IsProperHead, IsProperFunction, IsProperProgram, IsProperNext};
 ghost use Rattle.thread_core.specs.Frames.{evaluated, evaluated_kind, holds, passed, gave, worked, told, target_of, given_by, received, function_result, next_at, loaded, blank};
-ghost use Rattle.thread_core.specs.Steps.{frame_in, entered, IsPosition};
+ghost use Rattle.thread_core.specs.Steps.{frame_in, statement_at, entered, IsPosition};
 
 use crate::next::{Next, computed, decided, deepened, printed};
-use il_paths::{site_after, sites_in, statement_at};
-use il_syntax::{Atom, Function, Program, Rmw, Stmt};
+use il_paths::site_after;
+use il_syntax::text_order::statement;
+use il_syntax::{Atom, Function, Program, Rmw, Stmt, sites};
 use values_undef::{Access, Event, UpdateKind, Val, apply};
 
 /// A call of a function: its next statement, by its site, and its registers.
@@ -38,11 +39,12 @@ impl Position {
         requires proper { IsProperProgram p.now }
         requires at { IsPosition p.now self.now }
         ensures value { MatchOption result (first_head (frame_in p.now self.now).continuation ≡ None) (λ s. first_head (frame_in p.now self.now).continuation ≡ Some (head_of s.now)) }
+        ensures statement { IfSome result (λ s. statement_at p.now self.now ≡ Some s.now) }
         ensures proper { IfSome result (λ s. IsProperHead p.now 64 (head_of s.now)) }
     {
-        let body = &function_at(p, self.function).body;
-        if self.site < sites_in(body) {
-            Some(statement_at(body, 0, self.site))
+        let f = function_at(p, self.function);
+        if self.site < sites(f) {
+            Some(statement(f, self.site))
         } else {
             None
         }
@@ -55,10 +57,10 @@ impl Position {
         ensures frame { frame_in p.now self.new ≡ passed (frame_in p.now self.old) holds }
         ensures at { IsPosition p.now self.new }
     {
-        let body = &function_at(p, self.function).body;
-        let end = sites_in(body);
+        let f = function_at(p, self.function);
+        let end = sites(f);
         if self.site < end {
-            self.site = site_after(body, 0, self.site, holds, end);
+            self.site = site_after(&f.body, 0, self.site, holds, end);
         }
     }
 
@@ -73,6 +75,7 @@ impl Position {
         }
     }
 
+    /// The update of a statement, with the values of its atoms.
     pub fn kind(&self, kind: &Rmw) -> UpdateKind
         requires proper { IsProperUpdate 64 kind.now }
         ensures { result ≡ evaluated_kind self.now.registers kind.now }

@@ -10,13 +10,14 @@ use Rattle.words.specs.declared.command.Command.{Command}
 use Rattle.words.specs.declared.command.Command.TheVariants.{Check, Walk, Replay}
 use Rattle.words.specs.declared.command.Drawing.{Drawing}
 use Rattle.words.specs.Meaning.{GivesNumber, Means}
+use Rattle.words.proofs.Meanings.{one_meaning}
 use Rattle.il_parser.proofs.Single.{spelled_unrefused}
 use Rattle.replay_text.proofs.OneAnswer.{replay_unrefused}
 use Rattle.tool.specs.declared.status.Status.{Status}
 use Rattle.tool.specs.declared.status.Status.TheVariants as status
 use Rattle.tool.specs.Statuses.{status_of}
 use Rattle.tool.specs.Outputs.{limit_of, HasBudget, IsVerdictOutput, IsOutputOf, IsOutput, TooLong, Whole, IsAccepted, HasRefusal, IsRefused}
-use Rattle.tool.specs.Answers.{Seen, IsAnswerTo, IsAcceptedInput, IsRefusedInput, HasNoFault, IsWorkStatus, IsRefusalStatus}
+use Rattle.tool.specs.Answers.{Seen, IsAnswerTo, DoesByWords, IsAnswer, IsAcceptedInput, IsRefusedInput, HasNoFault, IsWorkStatus, IsRefusalStatus}
 
 -- ---- what was taken of an input
 
@@ -119,3 +120,41 @@ of_values Replay words m = tt
 
 pub has_budget : (words : List (List ℕ)) (command : Command) → Means words command → HasBudget command
 has_budget words command m = of_values command words m
+
+-- ---- words
+
+works_meant : (words : List (List ℕ)) (a b c d : Seen) (s : Status) → DoesByWords words a b c d s → (command : Command) → Means words command
+    → IsAcceptedInput command a.bytes → HasNoFault a b → HasNoFault c d → IsWorkStatus command s
+works_meant words a b c d s does command meant input source sink =
+    let same = one_meaning words command does.command meant does.meant in
+    works command a b c d s (subst (λ (x : Command). IsAnswerTo x a b c d s) (sym same) does.answer) input source sink
+
+pub works_by_words : (words : List (List ℕ)) (a b c d : Seen) (s : Status) → IsAnswer words a b c d s → (command : Command) → Means words command
+    → IsAcceptedInput command a.bytes → HasNoFault a b → HasNoFault c d → IsWorkStatus command s
+works_by_words words a b c d status.Done answer = works_meant words a b c d _ answer
+works_by_words words a b c d status.NoMemory answer = λ command meant input source sink. no_memory command
+works_by_words words a b c d status.Words answer = λ command meant input source sink. absurd (answer.0 command meant)
+works_by_words words a b c d status.Read answer = works_meant words a b c d _ answer
+works_by_words words a b c d status.Write answer = works_meant words a b c d _ answer
+works_by_words words a b c d status.Input answer = works_meant words a b c d _ answer
+works_by_words words a b c d status.Failed answer = works_meant words a b c d _ answer
+works_by_words words a b c d status.Spent answer = works_meant words a b c d _ answer
+works_by_words words a b c d status.No answer = works_meant words a b c d _ answer
+
+refuses_meant : (words : List (List ℕ)) (a b c d : Seen) (s : Status) → DoesByWords words a b c d s → (command : Command) → Means words command
+    → IsRefusedInput command a.bytes → HasNoFault a b → HasNoFault c d → IsRefusalStatus s
+refuses_meant words a b c d s does command meant input source sink =
+    let same = one_meaning words command does.command meant does.meant in
+    refuses command a b c d s (subst (λ (x : Command). IsAnswerTo x a b c d s) (sym same) does.answer) input source sink
+
+pub refuses_by_words : (words : List (List ℕ)) (a b c d : Seen) (s : Status) → IsAnswer words a b c d s → (command : Command) → Means words command
+    → IsRefusedInput command a.bytes → HasNoFault a b → HasNoFault c d → IsRefusalStatus s
+refuses_by_words words a b c d status.Done answer = refuses_meant words a b c d _ answer
+refuses_by_words words a b c d status.NoMemory answer = λ command meant input source sink. inr refl
+refuses_by_words words a b c d status.Words answer = λ command meant input source sink. absurd (answer.0 command meant)
+refuses_by_words words a b c d status.Read answer = refuses_meant words a b c d _ answer
+refuses_by_words words a b c d status.Write answer = refuses_meant words a b c d _ answer
+refuses_by_words words a b c d status.Input answer = refuses_meant words a b c d _ answer
+refuses_by_words words a b c d status.Failed answer = refuses_meant words a b c d _ answer
+refuses_by_words words a b c d status.Spent answer = refuses_meant words a b c d _ answer
+refuses_by_words words a b c d status.No answer = refuses_meant words a b c d _ answer

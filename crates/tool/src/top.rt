@@ -1,5 +1,7 @@
 //! The top calls: a command, and the words of a command, from a source to a sink.
 ghost use Rattle.std.specs.Prelude.{◌≡◌, ◌≤◌};
+ghost use Rattle.words.specs.Meaning.{Means};
+ghost use Rattle.words.specs.declared.command.Command.{Command};
 ghost use Rattle.tool.specs.Outputs.{HasBudget};
 ghost use Rattle.tool.specs.Answers.{seen, HasNoFault, IsAcceptedInput, IsRefusedInput, IsAnswerTo, IsWorkStatus, IsRefusalStatus, IsAnswer};
 
@@ -35,7 +37,8 @@ fn run<S: Source, K: Sink>(
     }
 }
 
-/// Does a command that does not wait, and returns.
+/// Does a command, and always returns: no command of today waits for anything, so the runtime `_rt`,
+/// which is there for commands that start threads, is not used.
 ///
 /// The whole output is made before its first byte is written. So [`Status::NoMemory`] and
 /// [`Status::Read`] write nothing, and [`Status::Write`] leaves a prefix of an output. A walk has
@@ -73,7 +76,7 @@ pub fn quiet<R, S: Source, K: Sink>(
 
 /// Does what the words ask for. Words that mean no command are [`Status::Words`], and then nothing is
 /// read or written.
-#[tactic(auto, using(crate::proofs::CompleteLemmas::has_budget, crate::proofs::AnswerLemmas::answers_words, crate::proofs::AnswerLemmas::means_nothing))]
+#[tactic(auto, using(crate::proofs::CompleteLemmas::has_budget, crate::proofs::CompleteLemmas::works_by_words, crate::proofs::CompleteLemmas::refuses_by_words, crate::proofs::AnswerLemmas::answers_words, crate::proofs::AnswerLemmas::means_nothing))]
 pub fn seqopt<R, S: Source, K: Sink>(
     alloc: Global,
     rt: &R,
@@ -84,6 +87,18 @@ pub fn seqopt<R, S: Source, K: Sink>(
     ensures answer { IsAnswer words.now
         (seen (S.left input.old) (S.faults input.old)) (seen (S.left input.new) (S.faults input.new))
         (seen (K.written output.old) (K.faults output.old)) (seen (K.written output.new) (K.faults output.new)) result }
+
+    // Where the words mean a command, an input that it accepts, and no fault, give a status of its work, or want of
+    // memory; and an input that it refuses, and no fault, give the status of a refusal, or want of memory.
+    ensures works { (command : Command) → Means words.now command → IsAcceptedInput command (S.left input.old)
+        → HasNoFault (seen (S.left input.old) (S.faults input.old)) (seen (S.left input.new) (S.faults input.new))
+        → HasNoFault (seen (K.written output.old) (K.faults output.old)) (seen (K.written output.new) (K.faults output.new))
+        → IsWorkStatus command result }
+    ensures refuses { (command : Command) → Means words.now command → IsRefusedInput command (S.left input.old)
+        → HasNoFault (seen (S.left input.old) (S.faults input.old)) (seen (S.left input.new) (S.faults input.new))
+        → HasNoFault (seen (K.written output.old) (K.faults output.old)) (seen (K.written output.new) (K.faults output.new))
+        → IsRefusalStatus result }
+
     ensures source_later { S.faults input.old ≤ S.faults input.new }
     ensures sink_later { K.faults output.old ≤ K.faults output.new }
 {

@@ -1,5 +1,5 @@
 -- Threads that run apart, over one memory, make a run of the machine.
-use Rattle.std.proofs.Common.{◌≡◌, ℕ, zero, suc, ◌<◌, Bool, true, false, cond, eqb, List, [], ◌∷◌, length, map, set, inl, inr, refl, sym, ap, subst, ◌∙◌, arith}
+use Rattle.std.proofs.Common.{◌≡◌, ℕ, zero, suc, ◌<◌, Bool, true, false, cond, eqb, List, [], ◌∷◌, length, set, inl, inr, refl, sym, ap, subst, ◌∙◌, arith}
 use Rattle.std.proofs.lemmas.List.{set-get_or, get_or-set_same, get_or-set_other, set-set, length-set, length-map, length-replicate, get_or-replicate}
 use Rattle.std.proofs.lemmas.Bool.{eq-eqb, ne_eqb, cases_eq, cases_Bool}
 use Rattle.values_undef.specs.Access.{choice_of_event}
@@ -7,8 +7,6 @@ use Rattle.values_undef.specs.Journal.{is_finish}
 use Rattle.values_undef.specs.declared.access.Access.{Access}
 use Rattle.values_undef.specs.declared.access.Access.TheVariants as access
 use Rattle.values_undef.specs.declared.access.Choice.TheVariants.{Plain}
-use Rattle.values_undef.specs.declared.access.Event.{Event}
-use Rattle.values_undef.specs.declared.access.Event.TheVariants.{NaRead, NaWrite, Read, Write, Update, Miss, Print, Fail, FailCompare, Finish, Spend}
 use Rattle.il_syntax.specs.declared.program.Program.{Program}
 use Rattle.message_memory.specs.Step.{StepResult, step_result}
 use Rattle.message_memory.specs.declared.history.Call.{Call}

@@ -10,7 +10,7 @@ use Rattle.message_memory.specs.History.{IsWellFormedState}
 use Rattle.message_memory.proofs.HistoryLemmas.{initial_state_well_formed}
 use Rattle.view_machine.proofs.Reached.{initial_memories}
 use Rattle.thread_core.specs.Steps.{Positions, stack_in}
-use Rattle.view_machine.specs.State.{start_of, values_of, initial_state}
+use Rattle.view_machine.specs.State.{start_of, values_of}
 use Rattle.view_machine.specs.Held.{IsWhole}
 
 pub some_from : {X : Type 0} (o : Option X) (P : X → Type 0) → IsSomeAnd o P → (x : X) × (o ≡ Some x) × P x

@@ -17,7 +17,7 @@ use Rattle.thread_core.specs.declared.next.Next.{Next}
 use Rattle.thread_core.specs.declared.next.Next.TheVariants as next
 use Rattle.view_machine.specs.declared.stepped.Stepped.TheVariants as stepped
 use Rattle.view_machine.specs.State.{State, view_in, next_in, Allows, IsStep, step_by, after_step, initial_state}
-use Rattle.view_machine.specs.Runs.{is_spend, after_silent, AreSilent, MakesEventBy, MakesEvent, after_event_by, after_event, IsEntry, after_entry, IsRunFrom, IsJournalRun, state_after, RunsTo}
+use Rattle.view_machine.specs.Runs.{is_spend, after_silent, AreSilent, MakesEventBy, after_event_by, IsEntry, after_entry, IsRunFrom, IsJournalRun, state_after, RunsTo}
 
 -- ---- parts
 

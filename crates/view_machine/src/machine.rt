@@ -1,5 +1,5 @@
 //! The machine: the threads of a program over one memory, one step at a time.
-ghost use Rattle.std.specs.Prelude.{◌≡◌, ℕ, ◌+◌, ◌<◌, ◌≤◌, [], Some, None, IsTrue, ◌↔◌, length, IfOk, OnOk, OnErr, MatchOption, slice_index_or};
+ghost use Rattle.std.specs.Prelude.{◌≡◌, ℕ, ◌+◌, ◌<◌, ◌≤◌, [], Some, None, IsTrue, ◌↔◌, length, IfOk, OnOk, OnErr, IfSome, MatchOption, IsSomeAnd, slice_get, slice_index_or};
 ghost use Rattle.il_syntax.specs.Statements.{head_of};
 ghost use Rattle.il_paths.specs.Code.{first_head};
 ghost use Rattle.message_memory.specs.Memory.{IsWellFormedMemory, IsClosed};
@@ -8,6 +8,7 @@ ghost use Rattle.values_undef.specs.Access.{choice_of_event};
 ghost use Rattle.values_undef.specs.declared.access.Event.{Event};
 ghost use Rattle.thread_core.specs.Programs.{IsProperProgram, IsProperAccess, IsProperNext};
 ghost use Rattle.thread_core.specs.Frames.{next_of};
+ghost use Rattle.thread_core.specs.Steps.{statement_at};
 ghost use Rattle.view_machine.specs.State.{State, IsRunning, IsStep, IsSpendable, after_step, step_by, after_spend, initial_state, next_in, view_in, local_in};
 ghost use Rattle.view_machine.specs.Held.{Held, state_in, IsOf, HasRoom};
 
@@ -171,12 +172,14 @@ impl<M: MessageMemory> Machine<M> {
         locals::next_in(&self.locals, p, thread as usize)
     }
 
-    /// The next statement of a thread's top call, or `None` exactly where nothing is left to do in it.
+    /// The next statement of a thread's top call, or `None` exactly where nothing is left to do in it. It
+    /// is the one at the site of the call, with its blocks.
     pub fn head<'p>(&self, p: &'p Program, thread: u32) -> Option<&'p Stmt>
         requires proper { IsProperProgram p.now }
         requires program { IsOf p.now self.now }
         requires there { thread < length self.now.locals }
-        ensures { MatchOption result (first_head (local_in (state_in p.now self.now) thread).top.continuation ≡ None) (λ s. first_head (local_in (state_in p.now self.now) thread).top.continuation ≡ Some (head_of s.now)) }
+        ensures statement { IfSome result (λ s. IsSomeAnd (slice_get self.now.locals thread) (λ l. statement_at p.now l.top ≡ Some s.now)) }
+        ensures value { MatchOption result (first_head (local_in (state_in p.now self.now) thread).top.continuation ≡ None) (λ s. first_head (local_in (state_in p.now self.now) thread).top.continuation ≡ Some (head_of s.now)) }
     {
         locals::head_in(&self.locals, p, thread as usize)
     }

@@ -1,7 +1,7 @@
 use Rattle.std.proofs.Common.{◌≡◌, ◌<◌, [], length, ap, sym, ◌∙◌, subst, arith}
 use Rattle.std.proofs.Math.ListN.{length-set}
 use Rattle.std.proofs.lemmas.List.{get_or_default}
-use Rattle.message_memory.specs.Memory.{Memory, IsClosed}
+use Rattle.message_memory.specs.Memory.{IsClosed}
 use Rattle.message_memory.specs.History.{MemoryState}
 use Rattle.message_memory.proofs.HistoryLemmas.{well_formed_after, all_at}
 use Rattle.message_memory.proofs.StepLaws.{keep_locations}
