@@ -1,5 +1,5 @@
 //! Statements, each on a line of its own, and blocks of them.
-ghost use Rattle.std.specs.Prelude.{◌≡◌, ◌+◌, ◌<◌, ◌^◌, ◌++◌, OnOk, codes};
+ghost use Rattle.std.specs.Prelude.{◌≡◌, ◌+◌, ◌<◌, ◌^◌, ◌++◌, OnOk, map, codes};
 ghost use Rattle.il_syntax.specs.Text as spec;
 ghost use Rattle.il_syntax.specs.Statements.{depth_of, depth_of_all};
 
@@ -260,52 +260,31 @@ fn push_statement(
     requires shallow { depth + depth_of statement.now < 2 ^ 64 }
     ensures { OnOk result (out.new.items ≡ out.old.items ++ spec.statement_text p.now registers.now statement.now depth) }
 {
+    let na = p.na.as_slice();
+    let atomic = p.atomic.as_slice();
     match statement {
         Stmt::Skip => push_line(out, depth, b"skip;"),
         Stmt::Copy { r, a } => push_copy(out, depth, registers, *r, *a),
         Stmt::Compute { r, op, a, b } => push_compute(out, depth, registers, *r, *op, *a, *b),
-        Stmt::Load { r, x } => {
-            push_load(
-                out,
-                depth,
-                registers,
-                *r,
-                location_name(p.na.as_slice(), *x),
-            )
-        }
-        Stmt::Store { x, a } => {
-            push_store(
-                out,
-                depth,
-                registers,
-                location_name(p.na.as_slice(), *x),
-                *a,
-            )
-        }
+        Stmt::Load { r, x } => push_load(out, depth, registers, *r, location_name(na, *x)),
+        Stmt::Store { x, a } => push_store(out, depth, registers, location_name(na, *x), *a),
         Stmt::AtomicLoad { r, order, y } => {
-            let y = location_name(p.atomic.as_slice(), *y);
+            let y = location_name(atomic, *y);
             push_atomic_load(out, depth, registers, *r, *order, y)
         }
         Stmt::AtomicStore { order, y, a } => {
-            let y = location_name(p.atomic.as_slice(), *y);
+            let y = location_name(atomic, *y);
             push_atomic_store(out, depth, registers, *order, y, *a)
         }
         Stmt::Update { r, order, y, kind } => {
-            let y = location_name(p.atomic.as_slice(), *y);
+            let y = location_name(atomic, *y);
             push_update(out, depth, registers, *r, *order, y, *kind)
         }
         Stmt::Print { a } => push_operand(out, depth, registers, b"print ", *a, b";"),
         Stmt::If { a, yes, no } => {
             push_operand(out, depth, registers, b"if ", *a, b" {")?;
             push_statements(out, depth + 1, p, registers, yes.statements.as_slice())?;
-            match no.statements.as_slice() {
-                [] => push_line(out, depth, b"}"),
-                others => {
-                    push_line(out, depth, b"} else {")?;
-                    push_statements(out, depth + 1, p, registers, others)?;
-                    push_line(out, depth, b"}")
-                }
-            }
+            push_else(out, depth, p, registers, no.statements.as_slice())
         }
         Stmt::While { a, body } => {
             push_operand(out, depth, registers, b"while ", *a, b" {")?;
@@ -315,6 +294,28 @@ fn push_statement(
         Stmt::Call { r, function, args } => {
             let name = function_name(p.functions.as_slice(), *function);
             push_call(out, depth, registers, *r, name, args.as_slice())
+        }
+    }
+}
+
+/// The end of an `if`: its second block, one deeper, is left out where it is empty.
+#[cycle(printer)]
+fn push_else(
+    out: &mut Vec<u8>,
+    depth: usize,
+    p: &Program,
+    registers: &[Name],
+    statements: &[Stmt],
+) -> Result<(), NoMemory>
+    requires shallow { depth + 1 + depth_of_all statements.now < 2 ^ 64 }
+    ensures { OnOk result (out.new.items ≡ out.old.items ++ spec.else_text depth (map (spec.statement_text p.now registers.now) statements.now)) }
+{
+    match statements {
+        [] => push_line(out, depth, b"}"),
+        others => {
+            push_line(out, depth, b"} else {")?;
+            push_statements(out, depth + 1, p, registers, others)?;
+            push_line(out, depth, b"}")
         }
     }
 }

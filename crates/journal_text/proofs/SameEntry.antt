@@ -1,5 +1,5 @@
 -- A line is the line of one entry only, in a program whose locations have names of their own.
-use Rattle.std.proofs.Common.{◌≡◌, ◌∙◌, ◌<◌, ◌≤◌, ℕ, ℤ, zero, suc, pos, negsuc, sym, ap, refl, Bool, true, false, not, List, [], ◌∷◌, ◌++◌, length, get_or, map, codes, arith}
+use Rattle.std.proofs.Common.{◌≡◌, ◌∙◌, ◌<◌, ◌≤◌, ◌^◌, ℕ, ℤ, zero, suc, pos, negsuc, sym, ap, refl, Bool, true, false, not, List, [], ◌∷◌, ◌++◌, length, get_or, map, codes, arith}
 use Rattle.std.specs.Fmt.{decimal, signed_decimal}
 use Rattle.std.specs.Str.{bytes_eq}
 use Rattle.std.proofs.lemmas.Fmt.{decimal_injective, signed_decimal_injective, decimal_is_IsNumeral_wide}
@@ -100,7 +100,7 @@ same_value (Def a) Undef h k e = absurd (no_undef a h e)
 same_value Undef (Def b) h k e = absurd (no_undef b k (sym e))
 same_value Undef Undef h k e = refl
 
-same_stamp : (a b : ℕ) → a ≤ 1152921504606846976 → b ≤ 1152921504606846976 → decimal a ≡ decimal b → a ≡ b
+same_stamp : (a b : ℕ) → a ≤ 2 ^ 60 → b ≤ 2 ^ 60 → decimal a ≡ decimal b → a ≡ b
 same_stamp a b h k e = decimal_injective a b (omega arith) (omega arith) e
 
 same_cause : (c d : Cause) → cause_word c ≡ cause_word d → c ≡ d

@@ -70,7 +70,7 @@ name_visible [] i h = refl
 name_visible (l ∷ ls) zero h = (both (are_visible l.name) (list_all (λ l. are_visible l.name) ls) h).0
 name_visible (l ∷ ls) (suc i) h = name_visible ls i (both (are_visible l.name) (list_all (λ l. are_visible l.name) ls) h).1
 
-stamp_visible : (n : ℕ) → n ≤ 1152921504606846976 → are_visible (decimal n) ≡ true
+stamp_visible : (n : ℕ) → n ≤ 2 ^ 60 → are_visible (decimal n) ≡ true
 stamp_visible n h = decimal_visible n (omega arith)
 
 event_visible : (p : Program) (e : Event) → HasPlainNames p → FitsEvent p e → list_all are_visible (event_words p e) ≡ true

@@ -1,11 +1,9 @@
 -- The first word of an event, which tells what the words after it are.
-use Rattle.std.specs.Prelude.{◌≡◌, List, [], ◌∷◌, Option, MatchOption, codes}
-use Rattle.std.specs.Fmt.{decimal, signed_decimal}
+use Rattle.std.specs.Prelude.{◌≡◌, List, Option, MatchOption, codes, drop}
 use Rattle.values_undef.specs.declared.access.Event.{Event}
 use Rattle.values_undef.specs.declared.access.Event.TheVariants as event
 use Rattle.il_syntax.specs.declared.program.Program.{Program}
-use Rattle.il_syntax.specs.Text.{location_name}
-use Rattle.journal_text.specs.Line.{Text, cause_word, kind_word, value_word}
+use Rattle.journal_text.specs.Line.{Text, event_words, kind_word}
 use Rattle.journal_text.specs.Limits.{FitsEvent, IsReadOrder, IsWriteOrder}
 use Rattle.journal_text.specs.declared.kind.Kind.{Kind}
 use Rattle.journal_text.specs.declared.kind.Kind.TheVariants.{NaRead, NaWrite, Read, Write, Update, Miss, Print, Fail, Finish, Spend}
@@ -75,18 +73,7 @@ kind_of event.Spend = Spend
 
 -- the words after the first
 abbrev pub more_words : Program → Event → List Text
-more_words p (event.NaRead x v) = location_name p.na x ∷ (value_word v ∷ [])
-more_words p (event.NaWrite x v version) = location_name p.na x ∷ (value_word v ∷ (decimal version ∷ []))
-more_words p (event.Read y order v to) = location_name p.atomic y ∷ (value_word v ∷ (decimal to ∷ []))
-more_words p (event.Write y order v from to) = location_name p.atomic y ∷ (value_word v ∷ (decimal from ∷ (decimal to ∷ [])))
-more_words p (event.Update y order old new read to) =
-    location_name p.atomic y ∷ (value_word old ∷ (value_word new ∷ (decimal read ∷ (decimal to ∷ []))))
-more_words p (event.Miss y order old read) = location_name p.atomic y ∷ (value_word old ∷ (decimal read ∷ []))
-more_words p (event.Print v) = signed_decimal v ∷ []
-more_words p (event.Fail cause) = cause_word cause ∷ []
-more_words p (event.FailCompare y read) = codes "compare" ∷ (location_name p.atomic y ∷ (decimal read ∷ []))
-more_words p event.Finish = []
-more_words p event.Spend = []
+more_words p e = drop 1 (event_words p e)
 
 -- an event of this kind that a line may have
 abbrev pub FitsKind : Program → Kind → Event → Type 0

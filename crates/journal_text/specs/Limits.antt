@@ -1,5 +1,5 @@
 -- Which entries stand in the text of a journal of a program.
-use Rattle.std.specs.Prelude.{◌≡◌, ◌<◌, ◌≤◌, ◌^◌, ◌&&◌, nat_lt, Bool, true, ℕ, ℤ, pos, negsuc, length}
+use Rattle.std.specs.Prelude.{◌≡◌, ◌<◌, ◌≤◌, ◌+◌, ◌*◌, ◌^◌, ◌&&◌, nat_lt, Bool, true, ℕ, ℤ, pos, negsuc, length}
 use Rattle.std.specs.List.{list_all}
 use Rattle.values_undef.specs.declared.value.Val.{Val}
 use Rattle.values_undef.specs.declared.value.Val.TheVariants.{Def, Undef}
@@ -21,7 +21,7 @@ IsValue Undef = Unit {0}
 
 -- a timestamp or a version
 abbrev pub IsStamp : ℕ → Type 0
-IsStamp n = n ≤ 1152921504606846976
+IsStamp n = n ≤ 2 ^ 60
 
 -- a read doesn't release
 abbrev pub IsReadOrder : Order → Type 0
@@ -60,6 +60,11 @@ pub record FitsEntry (p : Program) (e : Entry) : Type 0 where
   pub thread : e.thread ≤ 15
   pub silent : e.silent ≤ 16384
   pub event : FitsEvent p e.event
+
+-- the most entries of a journal: one for each of the 16384 steps of each of 16 threads, and one more for each thread,
+-- which ends it
+abbrev pub most_entries : ℕ
+most_entries = 16 * 16384 + 16
 
 -- a byte that is seen, and no blank
 abbrev pub is_visible : ℕ → Bool

@@ -79,6 +79,13 @@ fn push_message(
     push_number(out, to)
 }
 
+fn push_na_read(out: &mut Vec<u8>, na: &[Location], x: u32, v: Val) -> Result<(), AllocError>
+    ensures { OnOk result (out.new.items ≡ out.old.items ++ join_with_byte 32 (codes "rna" ∷ (location_name na.now x ∷ (spec.value_word v ∷ [])))) }
+{
+    push(out, b"rna ")?;
+    push_location(out, na, x, v)
+}
+
 fn push_na_write(
     out: &mut Vec<u8>,
     na: &[Location],
@@ -93,6 +100,41 @@ fn push_na_write(
     push_location(out, na, x, v)?;
     push_blank(out)?;
     push_number(out, version)
+}
+
+fn push_write(
+    out: &mut Vec<u8>,
+    order: Order,
+    atomic: &[Location],
+    y: u32,
+    v: Val,
+    from: u64,
+    to: u64,
+) -> Result<(), AllocError>
+    ensures { OnOk result (out.new.items ≡ out.old.items
+        ++ join_with_byte 32 (spec.kind_word (codes "w") order ∷ (location_name atomic.now y ∷ (spec.value_word v ∷ (decimal from ∷ (decimal to ∷ [])))))) }
+{
+    push_access(out, b"w", order, atomic, y, v)?;
+    push_blank(out)?;
+    push_pair(out, from, to)
+}
+
+fn push_update(
+    out: &mut Vec<u8>,
+    order: Order,
+    atomic: &[Location],
+    y: u32,
+    old: Val,
+    new: Val,
+    read: u64,
+    to: u64,
+) -> Result<(), AllocError>
+    ensures { OnOk result (out.new.items ≡ out.old.items
+        ++ join_with_byte 32 (spec.kind_word (codes "u") order ∷ (location_name atomic.now y ∷ (spec.value_word old ∷ (spec.value_word new ∷ (decimal read ∷ (decimal to ∷ []))))))) }
+{
+    push_access(out, b"u", order, atomic, y, old)?;
+    push_blank(out)?;
+    push_value_and_pair(out, new, read, to)
 }
 
 /// A location and a number.
@@ -127,10 +169,7 @@ fn push_event(out: &mut Vec<u8>, p: &Program, event: &Event) -> Result<(), Alloc
 {
     let atomic = p.atomic.as_slice();
     match *event {
-        Event::NaRead { x, v } => {
-            push(out, b"rna ")?;
-            push_location(out, p.na.as_slice(), x, v)
-        }
+        Event::NaRead { x, v } => push_na_read(out, p.na.as_slice(), x, v),
         Event::NaWrite { x, v, version } => push_na_write(out, p.na.as_slice(), x, v, version),
         Event::Read { y, order, v, to } => push_message(out, b"r", order, atomic, y, v, to),
         Event::Write {
@@ -139,11 +178,7 @@ fn push_event(out: &mut Vec<u8>, p: &Program, event: &Event) -> Result<(), Alloc
             v,
             from,
             to,
-        } => {
-            push_access(out, b"w", order, atomic, y, v)?;
-            push_blank(out)?;
-            push_pair(out, from, to)
-        }
+        } => push_write(out, order, atomic, y, v, from, to),
         Event::Update {
             y,
             order,
@@ -151,11 +186,7 @@ fn push_event(out: &mut Vec<u8>, p: &Program, event: &Event) -> Result<(), Alloc
             new,
             read,
             to,
-        } => {
-            push_access(out, b"u", order, atomic, y, old)?;
-            push_blank(out)?;
-            push_value_and_pair(out, new, read, to)
-        }
+        } => push_update(out, order, atomic, y, old, new, read, to),
         Event::Miss {
             y,
             order,

@@ -1,6 +1,6 @@
 -- Finitely many entries fit a program, so that whether one of them has a property is decided where it
 -- is decided of each.
-use Rattle.std.proofs.Common.{◌≡◌, ◌<◌, ◌≤◌, ◌^◌, ◌⊎◌, inl, inr, ℕ, ℤ, zero, suc, pos, negsuc, subst, length, arith}
+use Rattle.std.proofs.Common.{◌≡◌, ◌<◌, ◌≤◌, ◌+◌, ◌^◌, ◌⊎◌, inl, inr, ℕ, ℤ, zero, suc, pos, negsuc, subst, length, arith}
 use Rattle.std.proofs.lemmas.Bool.{cases_lt}
 use Rattle.values_undef.specs.declared.value.Val.{Val}
 use Rattle.values_undef.specs.declared.value.Val.TheVariants.{Def, Undef}
@@ -63,8 +63,8 @@ module _ (P : Val → Type 0) (each : (v : Val) → Decided (P v)) where
 
 some_stamp : (P : ℕ → Type 0) → ((n : ℕ) → Decided (P n)) → Decided ((n : ℕ) × IsStamp n × P n)
 some_stamp P each =
-    same_fact (some_below 1152921504606846977 P each) (λ x. let below : x.0 < 1152921504606846977 = x.1 in (x.0, omega arith, x.2))
-    (λ x. let within : x.0 ≤ 1152921504606846976 = x.1 in (x.0, omega arith, x.2))
+    same_fact (some_below (2 ^ 60 + 1) P each) (λ x. let below : x.0 < 2 ^ 60 + 1 = x.1 in (x.0, omega arith, x.2))
+    (λ x. let within : x.0 ≤ 2 ^ 60 = x.1 in (x.0, omega arith, x.2))
 
 module _ (P : Order → Type 0) (each : (o : Order) → Decided (P o)) where
   no_read_order : (P Rlx → ⊥) → (P Acq → ⊥) → (o : Order) → IsReadOrder o → P o → ⊥

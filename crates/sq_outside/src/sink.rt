@@ -8,9 +8,10 @@ use crate::Failed;
 
 /// A sink of bytes.
 pub trait Sink {
-    // the bytes that were written, where the sink tells them
+    /// The bytes that were written, where the sink tells them.
     ghost written: { Self → Option (List ℕ) };
-    // how often the sink has failed; a count that stands at 2^64 - 1 counts as risen
+
+    /// How often the sink has failed; a count that stands at 2^64 - 1 counts as risen.
     ghost faults: { Self → ℕ };
 
     /// Appends the first of these bytes, at least one where there are any, and says how many.

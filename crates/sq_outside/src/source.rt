@@ -10,9 +10,10 @@ use values_undef::Bytes;
 
 /// A source of bytes.
 pub trait Source {
-    // the bytes that are left, where the source tells them
+    /// The bytes that are left, where the source tells them.
     ghost left: { Self → Option (List ℕ) };
-    // how often the source has failed; a count that stands at 2^64 - 1 counts as risen
+
+    /// How often the source has failed; a count that stands at 2^64 - 1 counts as risen.
     ghost faults: { Self → ℕ };
 
     /// Takes the next bytes into the first places of the slice, and says how many.
@@ -34,7 +35,7 @@ pub enum ReadFault {
     NoMemory,
 }
 
-/// Takes all that is left, up to the limit in bytes.
+/// Takes all that is left, up to the limit in bytes, which has to be below 2^32.
 ///
 /// [`ReadFault::TooLong`] comes exactly where one byte more than the limit was taken, and [`ReadFault::Failed`] only
 /// where the source's faults rose, with at most the limit taken. After any fault the first bytes of what was left are

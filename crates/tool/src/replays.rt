@@ -3,7 +3,7 @@ ghost use Rattle.std.specs.Prelude.{◌≡◌, ◌<◌, ◌-◌, ◌^◌, length
 ghost use Rattle.tool.specs.Outputs.{IsReplayOutput, IsReplayRefusal, IsVerdictOutput};
 ghost use Rattle.tool.specs.Lines.{ending_word, why_word, text_rule_word};
 
-use crate::answer::{Output, refused, written};
+use crate::answer::{Output, refused, rule_word, written};
 use crate::status::Status;
 use message_memory::PlainMemory;
 use replay::{Verdict, Why};
@@ -34,24 +34,12 @@ fn why_word(why: Why) -> &'static str
 }
 
 /// The word for a rule of the input.
-fn rule_word(rule: TextRule) -> &'static str
+fn text_rule_word(rule: TextRule) -> &'static str
     ensures { result.now ≡ text_rule_word rule }
 {
     match rule {
         TextRule::J => "J",
-        TextRule::P1 => "P1",
-        TextRule::P2 => "P2",
-        TextRule::P3 => "P3",
-        TextRule::P4 => "P4",
-        TextRule::P5 => "P5",
-        TextRule::C1 => "C1",
-        TextRule::C2 => "C2",
-        TextRule::C3 => "C3",
-        TextRule::C4 => "C4",
-        TextRule::C5 => "C5",
-        TextRule::C6 => "C6",
-        TextRule::C7 => "C7",
-        TextRule::C8 => "C8",
+        TextRule::Text { rule } => rule_word(rule),
     }
 }
 
@@ -86,7 +74,7 @@ pub(crate) fn replay(alloc: Global, input: &[u8]) -> Result<Output, NoMemory>
             told(alloc, read.ending, verdict)
         }
         Err(TextFault::Refused { rule, line, column }) => {
-            refused(alloc, rule_word(rule), line, column)
+            refused(alloc, text_rule_word(rule), line, column)
         }
         Err(TextFault::NoMemory) => Err(NoMemory),
     }

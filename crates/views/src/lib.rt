@@ -23,10 +23,10 @@ use timestamps::{is_below, join_into, raise_at};
 /// The most locations that a view has a timestamp for.
 pub const MAX_LOCATIONS: usize = 32;
 
-/// A timestamp for each location, at most 32 of them. Contracts see the list.
+/// A timestamp for each location, at most [`MAX_LOCATIONS`] of them. Contracts see the list.
 #[derive(Drop)]
 pub struct View {
-    timestamps: SmallVec<u64, 32>,
+    timestamps: SmallVec<u64, MAX_LOCATIONS>,
 }
 
 impl Model for View {
@@ -40,7 +40,8 @@ impl Model for View {
 }
 
 impl View {
-    /// The view that knows of nothing but the first state of `n` locations.
+    /// The view that knows of nothing but the first state of `n` locations, of which there may be
+    /// [`MAX_LOCATIONS`].
     pub fn zero(alloc: Global, n: u32) -> View
         requires { n ≤ 32 }
         ensures { result ≡ replicate n 0 }
@@ -65,7 +66,7 @@ impl View {
         self.timestamps.is_empty()
     }
 
-    /// The timestamp of location `i`.
+    /// The timestamp of location `i`, which the view has to have.
     pub fn at(&self, i: u32) -> u64
         requires { i < length self.now }
         ensures { result ≡ slice_index self.now i }
@@ -73,7 +74,7 @@ impl View {
         self.timestamps.as_slice()[i as usize]
     }
 
-    /// Raises the timestamp of location `i` to at least `t`.
+    /// Raises the timestamp of location `i`, which the view has to have, to at least `t`.
     pub fn raise(&mut self, i: u32, t: u64)
         requires { i < length self.old }
         ensures value { self.new ≡ raised self.old i t }
@@ -82,7 +83,7 @@ impl View {
         raise_at(self.timestamps.as_mut_slice(), i as usize, t);
     }
 
-    /// Raises each timestamp to that of the other view.
+    /// Raises each timestamp to that of the other view, which has to have as many locations.
     pub fn join(&mut self, other: &View)
         requires { length other.now ≡ length self.old }
         ensures value { self.new ≡ joined self.old other.now }
@@ -103,7 +104,8 @@ impl View {
         }
     }
 
-    /// Whether this view knows no more than the other: no timestamp is past that of the other.
+    /// Whether this view knows no more than the other, which has to have as many locations: no
+    /// timestamp is past that of the other.
     pub fn is_below(&self, other: &View) -> bool
         requires { length other.now ≡ length self.now }
         ensures { IsTrue result ↔ IsPointwiseBelow self.now other.now }

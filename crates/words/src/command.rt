@@ -33,7 +33,7 @@ pub enum Command {
 /// Why words gave no command.
 #[derive(Debug, Drop, Clone, Copy, PartialEq, Eq)]
 pub enum WordsFault {
-    /// The words ask for nothing.
+    /// The words mean no command.
     Refused,
     /// There was no memory to read them.
     NoMemory,

@@ -46,10 +46,7 @@ fn matches<'a>(alloc: Global, words: &'a [&'a str]) -> Result<ArgMatches<'a>, Wo
         × (subcommand_rows_of m ≡ subcommand_of (clap_program commands) (map (λ x. x.now) words.entry.now))) }
     ensures err { IfErr result (λ e. e ≡ WordsFault.Refused → fault_of (clap_program commands) (map (λ x. x.now) words.entry.now) ≡ [] → ⊥) }
 {
-    let program = match program(alloc) {
-        Ok(program) => program,
-        Err(_) => return Err(WordsFault::NoMemory),
-    };
+    let program = program(alloc)?;
     match program.try_get_matches_from(words) {
         Ok(matches) => Ok(matches),
         Err(error) => Err(fault(&error)),
@@ -164,6 +161,8 @@ fn command(alloc: Global, name: &str, settings: &ArgMatches) -> Result<Command, 
     }
 }
 
+/// Whether a word is `--`. It is looked for before `clap` reads the words, since `clap` would take it
+/// as the end of the options and read `check --` as `check`.
 fn has_dashes(words: &Words) -> bool
     ensures { result ≡ list_any (λ w. bytes_eq w (codes "--")) words.now }
 {
@@ -190,10 +189,7 @@ pub fn read_words(alloc: Global, words: &Words) -> Result<Command, WordsFault>
         return Err(WordsFault::Refused);
     }
     let texts = texts(alloc, words)?;
-    let matches = match matches(alloc, texts.as_slice()) {
-        Ok(matches) => matches,
-        Err(fault) => return Err(fault),
-    };
+    let matches = matches(alloc, texts.as_slice())?;
     match matches.subcommand() {
         Some((name, settings)) => command(alloc, name, settings),
         None => Err(WordsFault::Refused),

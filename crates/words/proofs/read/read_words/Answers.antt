@@ -1,4 +1,4 @@
-use Rattle.std.proofs.Common.{◌≡◌, ◌∙◌, ap, sym, true, false}
+use Rattle.std.proofs.Common.{◌≡◌, ◌∙◌, ap, sym, true, false, rules}
 use Rattle.clap.specs.Simple.{subcommand_of}
 use Rattle.clap.specs.Faults.{fault_of}
 use Rattle.words.specs.Commands.{commands}
@@ -11,21 +11,22 @@ pub returns-then-has_dashes-clause-only : goal.returns-then-has_dashes-clause-on
 returns-then-has_dashes-clause-only c d m =
     let bad : true ≡ false = sym c.if-has_dashes.true ∙ c.has_dashes.ensures ∙ (passes c.args.words.now d m).dashes in absurd cc
 
-pub returns-in-Err-clause-only : goal.returns-in-Err-clause-only
-returns-in-Err-clause-only c d m =
+pub returns-in_err-matches-clause-only : goal.returns-in_err-matches-clause-only
+returns-in_err-matches-clause-only c d m =
     let same : texts_of c.as_slice.result.now ≡ c.args.words.now = ap texts_of c.as_slice.ensures.value ∙ c.in_ok-texts.ensures in
-    only_memory c.in-Err.fault (λ f. c.in-Err.ensures.err f (ap (fault_of (clap_program commands)) same ∙ (passes c.args.words.now d m).fault))
+    let memory = only_memory c.in_err-matches.field-0.0 (λ f. c.in_err-matches.ensures.err f (ap (fault_of (clap_program commands)) same ∙ (passes c.args.words.now d m).fault)) in
+    search rules
 
 pub returns-in-Some-clause-meant : goal.returns-in-Some-clause-meant
 returns-in-Some-clause-meant c =
     let same : texts_of c.as_slice.result.now ≡ c.args.words.now = ap texts_of c.as_slice.ensures.value ∙ c.in_ok-texts.ensures in
-    let read = c.in-Ok.ensures.ok in
-    let given = matched c.in-Ok.matches c.in-Some.name.now _ c.in-Some.ensures.name c.in-Some.ensures.rows in
+    let read = c.in_ok-matches.ensures.ok in
+    let given = matched c.in_ok-matches.matches c.in-Some.name.now _ c.in-Some.ensures.name c.in-Some.ensures.rows in
     meant c.args.words.now c.in-Some.name.now _ c.command.result (sym c.has_dashes.ensures ∙ c.if-has_dashes.false) (ap (fault_of (clap_program commands)) (sym same) ∙ read.0)
     (ap (subcommand_of (clap_program commands)) (sym same) ∙ sym read.1 ∙ given) c.command.ensures
 
 pub returns-in-Some-clause-only : goal.returns-in-Some-clause-only
 returns-in-Some-clause-only c d m =
     let same : texts_of c.as_slice.result.now ≡ c.args.words.now = ap texts_of c.as_slice.ensures.value ∙ c.in_ok-texts.ensures in
-    let given = matched c.in-Ok.matches c.in-Some.name.now _ c.in-Some.ensures.name c.in-Some.ensures.rows in
-    only c.args.words.now d m c.in-Some.name.now _ c.command.result (ap (subcommand_of (clap_program commands)) (sym same) ∙ sym c.in-Ok.ensures.ok.1 ∙ given) c.command.ensures
+    let given = matched c.in_ok-matches.matches c.in-Some.name.now _ c.in-Some.ensures.name c.in-Some.ensures.rows in
+    only c.args.words.now d m c.in-Some.name.now _ c.command.result (ap (subcommand_of (clap_program commands)) (sym same) ∙ sym c.in_ok-matches.ensures.ok.1 ∙ given) c.command.ensures
