@@ -17,7 +17,7 @@ use values_undef::Order;
 /// How many statements a function may have, those of its blocks among them.
 const MOST_STATEMENTS: u32 = 4096;
 
-/// The greatest magnitude that is kept, with a sign too.
+/// The greatest number.
 const GREATEST: u64 = i64::MAX as u64;
 
 /// What a statement may speak of, and the text in which the names stand.
