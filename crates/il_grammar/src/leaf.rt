@@ -18,10 +18,10 @@ use token_machine::{ReadError, fault_at, next};
 use values_undef::Op;
 
 /// The greatest number without a sign.
-const LIMIT: u64 = 9223372036854775807;
+const LIMIT: u64 = i64::MAX as u64;
 
 /// The greatest number after a sign.
-const NEGATIVE_LIMIT: u64 = 9223372036854775808;
+const NEGATIVE_LIMIT: u64 = i64::MAX as u64 + 1;
 
 /// A word that the right side of an assignment begins with.
 #[derive(Clone, Copy, Debug, PartialEq, Eq)]

@@ -15,6 +15,7 @@ pub enum Literal {
     Negative(u64),
 }
 
+/// A constant, or the name of a register.
 #[derive(Clone, Copy, Debug, PartialEq, Eq)]
 pub enum RawAtom<N> {
     Constant(Literal),
@@ -28,6 +29,7 @@ pub struct RawOrder<N> {
     pub word: N,
 }
 
+/// How an atomic location is updated without a comparison.
 #[derive(Clone, Copy, Debug, PartialEq, Eq)]
 pub enum RawUpdate {
     Add,
@@ -96,6 +98,7 @@ pub enum RawStatement {
     While(Span, RawAtom<Span>, Vec<RawStatement>),
 }
 
+/// A location, and its value at the start.
 #[derive(Clone, Copy, Debug, PartialEq, Eq)]
 pub struct RawLocation<N> {
     pub is_atomic: bool,

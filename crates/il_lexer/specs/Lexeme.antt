@@ -5,7 +5,7 @@ use Rattle.il_syntax.specs.Name.{is_letter, is_digit, is_word_byte}
 use Rattle.il_lexer.specs.declared.token.TokenKind.{TokenKind}
 use Rattle.il_lexer.specs.declared.token.TokenKind.TheVariants.{Word, Number, Symbol}
 
--- the signs of one byte
+-- the symbols of one byte
 abbrev pub is_single : ℕ → Bool
 is_single b = list_any (λ s. s == b) (codes "(){},;=+-*/%&|^<")
 

@@ -28,10 +28,17 @@ pub data Rest : Type 0 where
 -- The bytes from a place on are these tokens, with blanks and comments round them, up to the stop.
 pub data Lexes : ℕ → List ℕ → List Token → Rest → Type 0 where
   ended : {at : ℕ} → Lexes at [] [] at_end
-  unknown : {at b : ℕ} {bytes : List ℕ} → is_blank b ≡ false → b ≢ 35 → BeginsNoToken (b ∷ bytes) → Lexes at (b ∷ bytes) [] (stopped_at at)
-  blank : {at b : ℕ} {bytes : List ℕ} {ts : List Token} {stop : Rest} → is_blank b ≡ true → Lexes (at + 1) bytes ts stop → Lexes at (b ∷ bytes) ts stop
-  comment : {at : ℕ} {all : List ℕ} {ts : List Token} {stop : Rest} (note rest : List ℕ) → all ≡ 35 ∷ (note ++ rest) → list_all in_line note ≡ true → EndsLine rest → Lexes (at + 1 + length note) rest ts stop → Lexes at all ts stop
-  token : {at : ℕ} {all : List ℕ} {ts : List Token} {stop : Rest} {kind : TokenKind} (text rest : List ℕ) → all ≡ text ++ rest → is_lexeme kind text ≡ true → IsLongest text rest → Lexes (at + length text) rest ts stop → Lexes at all (record { kind = kind; start = at; end = at + length text } ∷ ts) stop
+  unknown : {at b : ℕ} {bytes : List ℕ} → is_blank b ≡ false → b ≢ 35 → BeginsNoToken (b ∷ bytes)
+      → Lexes at (b ∷ bytes) [] (stopped_at at)
+  blank : {at b : ℕ} {bytes : List ℕ} {ts : List Token} {stop : Rest} → is_blank b ≡ true
+      → Lexes (at + 1) bytes ts stop → Lexes at (b ∷ bytes) ts stop
+  comment : {at : ℕ} {all : List ℕ} {ts : List Token} {stop : Rest} (note rest : List ℕ)
+      → all ≡ 35 ∷ (note ++ rest) → list_all in_line note ≡ true → EndsLine rest
+      → Lexes (at + 1 + length note) rest ts stop → Lexes at all ts stop
+  token : {at : ℕ} {all : List ℕ} {ts : List Token} {stop : Rest} {kind : TokenKind} (text rest : List ℕ)
+      → all ≡ text ++ rest → is_lexeme kind text ≡ true → IsLongest text rest
+      → Lexes (at + length text) rest ts stop
+      → Lexes at all (record { kind = kind; start = at; end = at + length text } ∷ ts) stop
 
 abbrev pub rest_of : Option ℕ → Rest
 rest_of None = at_end

@@ -1,9 +1,9 @@
-//! The tokens of a text: words, numbers and signs, each the longest that begins where it stands,
-//! with blanks and comments between them.
+//! The tokens of a text: words, numbers and symbols, each the longest that begins where it stands
+//! (the longest match, or "maximal munch"), with blanks and comments between them.
 //!
 //! A text has the bytes 9, 10, 13 and 32 to 126. Blanks are 9, 10, 13 and 32. A comment runs from a
 //! `#` up to the next byte 10, or to the end. A word is a letter or `_` followed by letters, digits
-//! and `_`. A number is one or more digits. The signs are
+//! and `_`. A number is one or more digits. The symbols are
 //! `( ) { } , ; = + - * / % & | ^ == != < <=`.
 #![tactic(auto)]
 

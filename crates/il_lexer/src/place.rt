@@ -3,7 +3,8 @@
 ghost use Rattle.std.specs.Prelude.{◌≡◌, ◌-◌, ◌≤◌, ◌<◌, ◌^◌, length};
 ghost use Rattle.il_lexer.specs.Place.{line_of, column_of};
 
-/// The line of a place, from 1: one more than the ends of lines before it.
+/// The line of a place, from 1: one more than the ends of lines before it. The place is in the text
+/// or at its end, and the text is shorter than 2^32 - 1 bytes.
 pub fn line(bytes: &[u8], at: u32) -> u32
     requires within { at ≤ length bytes.now }
     requires small { length bytes.now < 2 ^ 32 - 1 }
@@ -16,7 +17,8 @@ pub fn line(bytes: &[u8], at: u32) -> u32
     line
 }
 
-/// The column of a place, from 1: one more than the bytes before it in its line.
+/// The column of a place, from 1: one more than the bytes before it in its line. The place is in the
+/// text or at its end, and the text is shorter than 2^32 - 1 bytes.
 pub fn column(bytes: &[u8], at: u32) -> u32
     requires within { at ≤ length bytes.now }
     requires small { length bytes.now < 2 ^ 32 - 1 }

@@ -111,20 +111,18 @@ fn foreign_index(bytes: &[u8]) -> Option<usize>
     bytes.iter().position(|b| is_foreign(*b))
 }
 
-/// The place of the first byte that no text has, in a comment either. It takes no memory.
+/// The place of the first byte that no text has, in a comment either. It takes no memory. The text
+/// is shorter than 2^32 bytes.
 pub fn foreign_byte(bytes: &[u8]) -> Option<u32>
     requires { length bytes.now < 2 ^ 32 }
     ensures exact { result ≡ position is_foreign bytes.now }
     ensures within { IfSome result (λ at. at < length bytes.now) }
 {
-    match foreign_index(bytes) {
-        Some(at) => Some(at as u32),
-        None => None,
-    }
+    foreign_index(bytes).map(|at| at as u32)
 }
 
 /// The tokens up to the first byte that begins none, whatever other bytes the text has: for a
-/// reader that has to look at the tokens before that byte.
+/// reader that has to look at the tokens before that byte. The text is shorter than 2^32 bytes.
 pub fn scan(alloc: Global, bytes: &[u8]) -> Result<Lexed, NoMemory>
     requires { length bytes.now < 2 ^ 32 }
     // What is answered are the text's tokens.
@@ -135,8 +133,9 @@ pub fn scan(alloc: Global, bytes: &[u8]) -> Result<Lexed, NoMemory>
     read_tokens(alloc, bytes)
 }
 
-/// The tokens of a text.
+/// The tokens of a text, which is shorter than 2^32 bytes.
 ///
+/// # Errors
 /// `Byte` is answered first, exactly where a byte stands that no text has, and takes no memory.
 /// `Unknown` is answered exactly where a byte begins no token, unless memory runs out before it.
 pub fn lex(alloc: Global, bytes: &[u8]) -> Result<Tokens, LexFault>

@@ -3,7 +3,7 @@ ghost use Rattle.std.specs.Prelude.{length, ◌<◌, ◌≤◌, ◌^◌, ◌-◌
 use super::*;
 use std::test::*;
 
-/// The kinds and places of the tokens of a text, in a row of bytes: kind, start, end.
+/// The tokens of a text, each as its kind, start and end.
 fn spans_of(rt: &HostRuntime, text: &[u8]) -> Result<Vec<(TokenKind, u32, u32)>, Fail>
     requires { length text.now < 2 ^ 32 }
 {

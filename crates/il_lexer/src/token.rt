@@ -36,6 +36,7 @@ impl Model for Tokens {
 }
 
 impl Tokens {
+    /// The tokens, as a slice.
     pub fn as_slice(&self) -> &[Token]
         ensures { result.now ≡ self.now }
     {

@@ -2,6 +2,7 @@
 -- the rules.
 use Rattle.std.specs.Prelude.{ℕ, ◌+◌, List, [], ◌∷◌, ◌++◌, length, Bool, true, false, not, ◌&&◌, ◌==◌, nat_lt, nat_le, Option, Some, None, is_some, if◌then◌else◌, slice_get}
 use Rattle.std.specs.Option.{option_map_or}
+use Rattle.il_syntax.specs.Name.{is_among}
 use Rattle.il_syntax.specs.WellFormed.{is_load_order, is_store_order}
 use Rattle.il_grammar.specs.declared.rule.Rule.{Rule}
 use Rattle.il_grammar.specs.declared.rule.Rule.TheVariants.{C1, C2, C3, C4, C5, C6, C7, C8}
@@ -10,9 +11,10 @@ use Rattle.il_grammar.specs.declared.syntax.RawAtom.{RawAtom}
 use Rattle.il_grammar.specs.declared.syntax.RawAtom.TheVariants.{Constant, Named}
 use Rattle.il_grammar.specs.declared.syntax.RawOrder.{RawOrder}
 use Rattle.il_grammar.specs.declared.syntax.RawLocation.{RawLocation}
+use Rattle.il_grammar.specs.Name.{name_text}
 use Rattle.il_grammar.specs.Grammar.{Snoc, empty, append, Simple, skip, store, print, copy, compute, load, update, cas, call, Tree, simply, choice, choice_else, repeat, Trees, no_tree, add_tree, Routine, Thread, TextTree}
 use Rattle.il_names.specs.declared.fault.NameFault.{NameFault}
-use Rattle.il_names.specs.Known.{Known, name_text, number_of, stands_among, added, texts_after, na_names, atomic_names, function_names, parameter_counts, registers_of, snoc_length}
+use Rattle.il_names.specs.Known.{Known, number_of, added, texts_after, na_names, atomic_names, function_names, parameter_counts, registers_of, snoc_length}
 
 -- a rule that is broken at a place unless a test passes
 abbrev pub unless : Bool → Rule → ℕ → List NameFault
@@ -89,7 +91,8 @@ module _ (bytes : List ℕ) (known : Known) where
   simple_faults (load r o x) before = register_faults r ++ (too_many_statements before r.start ++ (load_order_faults o ++ location_faults o x))
   simple_faults (update r w o y a) before = register_faults r ++ (too_many_statements before r.start ++ (atomic_faults y ++ atom_faults a))
   simple_faults (cas r o y a b) before = register_faults r ++ (too_many_statements before r.start ++ (atomic_faults y ++ (atom_faults a ++ atom_faults b)))
-  simple_faults (call r g args) before = register_faults r ++ (too_many_statements before r.start ++ (function_faults g (snoc_length args) ++ atoms_faults args))
+  simple_faults (call r g args) before =
+      register_faults r ++ (too_many_statements before r.start ++ (function_faults g (snoc_length args) ++ atoms_faults args))
 
   abbrev mutual
     pub tree_faults : Tree Span → ℕ → List NameFault
@@ -113,7 +116,7 @@ module _ (bytes : List ℕ) where
   -- C2, C7: a name that is declared where these names were declared before, and that is one of so many at most
   abbrev pub declaration_faults : List (List ℕ) → Bool → Span → List NameFault
   declaration_faults before has_room n =
-      unless (not (stands_among before (name_text bytes n))) C2 n.start
+      unless (not (is_among before (name_text bytes n))) C2 n.start
       ++ unless (has_room && nat_le (length (name_text bytes n)) 32) C7 n.start
 
   -- the names of all locations, and how many there are of a kind
@@ -142,10 +145,22 @@ module _ (bytes : List ℕ) where
       registers_faults before registers limit rs
       ++ declaration_faults (texts_after bytes before rs) (nat_lt (registers + snoc_length rs) limit) r
 
+  -- the declarations of a function, after all names so far, the global ones among them
+  abbrev pub routine_faults : List (List ℕ) → List (List ℕ) → Bool → Routine Span → List NameFault
+  routine_faults all globals has_room f =
+      let before = added globals (name_text bytes f.name) in
+      declaration_faults all has_room f.name
+      ++ (registers_faults before 0 8 f.parameters
+      ++ registers_faults (texts_after bytes before f.parameters) (snoc_length f.parameters) 64 f.registers)
+
+  -- all names after it
+  abbrev pub names_with : List (List ℕ) → Routine Span → List (List ℕ)
+  names_with all f = texts_after bytes (texts_after bytes (added all (name_text bytes f.name)) f.parameters) f.registers
+
   -- every name that functions declare after these, their parameters and registers among them
   abbrev pub names_after : List (List ℕ) → Snoc (Routine Span) → List (List ℕ)
   names_after before empty = before
-  names_after before (append fs f) = texts_after bytes (texts_after bytes (added (names_after before fs) (name_text bytes f.name)) f.parameters) f.registers
+  names_after before (append fs f) = names_with (names_after before fs) f
 
   -- the names of the functions after these
   abbrev pub globals_after : List (List ℕ) → Snoc (Routine Span) → List (List ℕ)
@@ -165,10 +180,7 @@ module _ (bytes : List ℕ) where
   -- the declarations of a function after others, in a text with these locations
   abbrev pub function_declaration_faults : Snoc (RawLocation Span) → Snoc (Routine Span) → Routine Span → List NameFault
   function_declaration_faults ls earlier f =
-      let globals = added (globals_after (location_names ls) earlier) (name_text bytes f.name) in
-      declaration_faults (names_after (location_names ls) earlier) (nat_lt (snoc_length earlier) 256) f.name
-      ++ (registers_faults globals 0 8 f.parameters
-      ++ registers_faults (texts_after bytes globals f.parameters) (snoc_length f.parameters) 64 f.registers)
+      routine_faults (names_after (location_names ls) earlier) (globals_after (location_names ls) earlier) (nat_lt (snoc_length earlier) 256) f
 
   abbrev pub body_faults : Known → Routine Span → List NameFault
   body_faults known f = trees_faults bytes known f.body 0 ++ atom_faults bytes known f.result

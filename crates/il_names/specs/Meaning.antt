@@ -1,5 +1,5 @@
 -- What a text means: its names as numbers. Where its names have faults this says nothing.
-use Rattle.std.specs.Prelude.{ℕ, suc, zero, ℤ, pos, negsuc, List, [], ◌∷◌, ◌++◌, Option, Some, None, unwrap_or, nat_le, if◌then◌else◌}
+use Rattle.std.specs.Prelude.{ℕ, suc, zero, ℤ, pos, negsuc, List, [], ◌∷◌, ◌++◌, Bool, true, false, Option, Some, None, unwrap_or, nat_le, if◌then◌else◌}
 use Rattle.il_syntax.specs.declared.statement.Atom.{Atom}
 use Rattle.il_syntax.specs.declared.statement.Atom.TheVariants.{Const, Reg}
 use Rattle.il_syntax.specs.declared.statement.Rmw.{Rmw}
@@ -16,8 +16,9 @@ use Rattle.il_grammar.specs.declared.syntax.RawAtom.TheVariants.{Constant, Named
 use Rattle.il_grammar.specs.declared.syntax.RawOrder.{RawOrder}
 use Rattle.il_grammar.specs.declared.syntax.RawUpdate.{RawUpdate}
 use Rattle.il_grammar.specs.declared.syntax.RawUpdate.TheVariants.{Add as Adding, Swap as Swapping}
+use Rattle.il_grammar.specs.Name.{name_text}
 use Rattle.il_grammar.specs.Grammar.{Snoc, empty, append, Simple, skip, store, print, copy, compute, load, update, cas, call, Tree, simply, choice, choice_else, repeat, Trees, no_tree, add_tree}
-use Rattle.il_names.specs.Known.{Known, name_text, number_of}
+use Rattle.il_names.specs.Known.{Known, number_of}
 
 abbrev pub negated : ℕ → ℤ
 negated zero = pos 0
@@ -31,6 +32,12 @@ literal_value (Negative n) = if nat_le n 9223372036854775807 then negated n else
 -- a block, from its statements
 abbrev pub block : List Stmt → Block
 block statements = record { statements = statements }
+
+-- an atomic location is read and written at once
+abbrev pub is_update : Simple Span → Bool
+is_update (update r w o y a) = true
+is_update (cas r o y a b) = true
+is_update _ = false
 
 abbrev pub choice_meaning : Atom → List Stmt → List Stmt → Stmt
 choice_meaning a first second = view.If a (block first) (block second)

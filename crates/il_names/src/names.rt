@@ -1,7 +1,8 @@
 //! Looking a name up.
 
 ghost use Rattle.std.specs.Prelude.{◌≡◌, ◌<◌, ◌^◌, length, IfOk};
-ghost use Rattle.il_names.specs.Known.{name_text, IsSmall};
+ghost use Rattle.il_grammar.specs.Name.{name_text};
+ghost use Rattle.il_names.specs.Known.{IsSmall};
 ghost use Rattle.il_names.specs.Faults.{register_faults, atom_faults, na_faults, atomic_faults, function_faults, load_order_faults, store_order_faults, too_many_statements};
 ghost use Rattle.il_names.specs.Meaning.{number, literal_value, atom_meaning};
 ghost use Rattle.il_names.specs.Names.{known_of};
@@ -12,6 +13,12 @@ use crate::scope::Scope;
 use il_grammar::{Literal, RawAtom, RawOrder, Rule, Span};
 use il_syntax::Atom;
 use values_undef::Order;
+
+/// How many statements a function may have, those of its blocks among them.
+const MOST_STATEMENTS: u32 = 4096;
+
+/// The greatest number.
+const GREATEST: u64 = i64::MAX as u64;
 
 /// What a statement may speak of, and the text in which the names stand.
 #[derive(Drop)]
@@ -103,9 +110,9 @@ pub fn literal_value(literal: Literal) -> i64
     ensures { result ≡ literal_value literal }
 {
     match literal {
-        Literal::Positive(n) if n <= 9223372036854775807 => n as i64,
+        Literal::Positive(n) if n <= GREATEST => n as i64,
         Literal::Positive(_) => i64::MAX,
-        Literal::Negative(n) if n <= 9223372036854775807 => -(n as i64),
+        Literal::Negative(n) if n <= GREATEST => -(n as i64),
         Literal::Negative(_) => i64::MIN,
     }
 }
@@ -129,7 +136,7 @@ pub fn room(before: u32, place: u32) -> Result<(), ResolveError>
     ensures exact { Resolves {X = Unit {0}} result (too_many_statements before place) tt }
     ensures within { IfOk result (λ _. before < 4096) }
 {
-    if before < 4096 {
+    if before < MOST_STATEMENTS {
         Ok(())
     } else {
         Err(fault(Rule::C7, place))

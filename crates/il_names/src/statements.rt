@@ -1,13 +1,13 @@
 //! Statements with numbers for names: one walk, with faults in the order of the text.
 
-ghost use Rattle.std.specs.Prelude.{◌≡◌, ◌+◌, ◌<◌, ◌≤◌, ◌^◌, ℕ, List, length, IfOk, Some};
+ghost use Rattle.std.specs.Prelude.{◌≡◌, ◌+◌, ◌<◌, ◌≤◌, ◌^◌, ℕ, List, length, true, IfOk, Some};
 ghost use Rattle.il_syntax.specs.declared.statement.Atom.{Atom};
 ghost use Rattle.il_syntax.specs.declared.statement.Stmt.{Stmt};
 ghost use Rattle.il_grammar.specs.Grammar.{skip, store, print, copy, compute, load, update, cas, call, simply, choice, repeat};
 ghost use Rattle.il_grammar.specs.Reading.{snoc, simple_of, tree, trees};
 ghost use Rattle.il_names.specs.Known.{Known, IsSmall, snoc_length};
 ghost use Rattle.il_names.specs.Faults.{half_faults, function_faults, simple_faults, atoms_faults, tree_faults, trees_faults, count, count_all};
-ghost use Rattle.il_names.specs.Meaning.{choice_meaning, number, simple_meaning, atom_meaning, atoms_meaning, tree_meaning, trees_meaning};
+ghost use Rattle.il_names.specs.Meaning.{is_update, choice_meaning, number, simple_meaning, atom_meaning, atoms_meaning, tree_meaning, trees_meaning};
 ghost use Rattle.il_names.specs.Names.{known_of};
 ghost use Rattle.il_names.specs.Resolving.{Resolves, Walks};
 
@@ -228,6 +228,32 @@ fn called(
     Ok(Stmt::Call { r, function, args })
 }
 
+/// An `add`, `swap` or `cas`.
+fn update(names: &Names, before: u32, written: &RawSimple) -> Result<Stmt, ResolveError>
+    requires small { IsSmall (known_of names.now) }
+    requires update { is_update (simple_of written.now) ≡ true }
+    ensures exact { Resolves result (simple_faults names.now.bytes.now (known_of names.now) (simple_of written.now) before) (simple_meaning names.now.bytes.now (known_of names.now) (simple_of written.now)) }
+    ensures within { IfOk result (λ _. before < 4096) }
+{
+    match written {
+        RawSimple::Update {
+            register,
+            kind,
+            order,
+            location,
+            operand,
+        } => updated(names, before, *register, *kind, *order, *location, *operand),
+        RawSimple::Cas {
+            register,
+            order,
+            location,
+            expected,
+            new,
+        } => compared(names, before, *register, *order, *location, *expected, *new),
+        _ => unreachable!(),
+    }
+}
+
 /// A statement that ends in a semicolon, after so many of its function.
 fn simple(
     alloc: Global,
@@ -260,20 +286,7 @@ fn simple(
             order,
             location,
         } => loaded(names, before, *register, *order, *location),
-        RawSimple::Update {
-            register,
-            kind,
-            order,
-            location,
-            operand,
-        } => updated(names, before, *register, *kind, *order, *location, *operand),
-        RawSimple::Cas {
-            register,
-            order,
-            location,
-            expected,
-            new,
-        } => compared(names, before, *register, *order, *location, *expected, *new),
+        RawSimple::Update { .. } | RawSimple::Cas { .. } => update(names, before, written),
         RawSimple::Call {
             register,
             function,

@@ -12,9 +12,10 @@ use Rattle.il_grammar.specs.declared.syntax.RawAtom.{RawAtom}
 use Rattle.il_grammar.specs.declared.syntax.RawAtom.TheVariants.{Constant, Named}
 use Rattle.il_grammar.specs.declared.syntax.RawOrder.{RawOrder}
 use Rattle.il_grammar.specs.declared.syntax.RawUpdate.TheVariants.{Add as Adding, Swap as Swapping}
+use Rattle.il_grammar.specs.Name.{name_text}
 use Rattle.il_grammar.specs.Grammar.{Snoc, empty, append, Simple, skip, store, print, copy, compute, load, update, cas, call, Tree, simply, choice, choice_else, repeat, Trees, no_tree, add_tree, Marks, literal, name, atom, order, order_if_any, listed, listed_if_any, each, simple, statement, statements}
 use Rattle.il_names.specs.declared.fault.NameFault.{NameFault}
-use Rattle.il_names.specs.Known.{Known, name_text, number_of, snoc_length}
+use Rattle.il_names.specs.Known.{Known, number_of, snoc_length}
 use Rattle.il_names.specs.Faults.{unless, count_all, too_many_statements, load_order_faults, store_order_faults, register_faults, atom_faults, na_faults, atomic_faults, location_faults, arity_faults, function_faults, atoms_faults, simple_faults, tree_faults, trees_faults}
 use Rattle.il_parser.specs.Order.{check_number}
 use Rattle.il_parser.proofs.Rising.{Rising}

@@ -23,11 +23,12 @@ use Rattle.il_grammar.specs.declared.syntax.RawAtom.TheVariants.{Constant, Named
 use Rattle.il_grammar.specs.declared.syntax.RawOrder.{RawOrder}
 use Rattle.il_grammar.specs.declared.syntax.RawUpdate.TheVariants.{Add as Adding, Swap as Swapping}
 use Rattle.il_grammar.specs.declared.syntax.RawLocation.{RawLocation}
+use Rattle.il_grammar.specs.Name.{name_text}
 use Rattle.il_grammar.specs.Grammar.{Snoc, empty, append, Simple, skip, store, print, copy, compute, load, update, cas, call, Tree, simply, choice, choice_else, repeat, Trees, no_tree, add_tree, Routine, TextTree, Marks, past_depth, open_at, literal, name, atom, order_if_any, listed, listed_if_any, each, simple, statement, statements, location, registers, function, thread, spelling}
 use Rattle.il_reader.specs.Terminals.{word_of, symbol_of, of_kind, terminal_of, unknown_terminal}
 use Rattle.il_reader.specs.Text.{Writes}
 use Rattle.il_reader.proofs.Words.{name_is_not_reserved}
-use Rattle.il_names.specs.Known.{Known, name_text}
+use Rattle.il_names.specs.Known.{Known}
 use Rattle.il_names.specs.Meaning.{atom_meaning, simple_meaning, tree_meaning, trees_meaning}
 use Rattle.il_parser.proofs.Rising.{span_of, HasPlace, no_place, own_place, word_place, symbol_place, written_tokens}
 use Rattle.il_parser.proofs.Each.{EachOf}

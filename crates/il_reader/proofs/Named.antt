@@ -5,13 +5,14 @@ use Rattle.il_lexer.specs.declared.token.Token.{Token}
 use Rattle.il_lexer.specs.Text.{Rest, at_end, stopped_at}
 use Rattle.il_grammar.specs.declared.syntax.Span.{Span}
 use Rattle.il_grammar.specs.declared.terminal.Terminal.TheVariants as terminal
+use Rattle.il_grammar.specs.Name.{name_text}
 use Rattle.il_grammar.specs.Grammar.{TextTree, spelling}
 use Rattle.il_grammar.specs.Mapped.{terminal_map, text_map}
 use Rattle.il_grammar.proofs.Renaming.{spelled_before, spelled_after}
 use Rattle.il_grammar.proofs.Instance.{no_place}
 use Rattle.il_grammar.proofs.Unread.{no_unknown}
 use Rattle.il_reader.specs.Terminals.{terminal_of, terminals_of}
-use Rattle.il_reader.specs.Text.{Writes, WritesNamed, name_text}
+use Rattle.il_reader.specs.Text.{Writes, WritesNamed}
 
 whole : (bytes : List ℕ) (rest : List Token) (stop : Rest) (xs : TextTree Span) → Spells spelling (terminals_of bytes rest stop) xs → stop ≡ at_end
 whole bytes rest at_end xs p = refl

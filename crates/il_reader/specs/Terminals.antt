@@ -12,13 +12,13 @@ use Rattle.il_grammar.specs.declared.terminal.Terminal.{Terminal}
 use Rattle.il_grammar.specs.declared.terminal.Terminal.TheVariants as t
 
 -- the number that a value and further digits are
-abbrev pub decimal : ℕ → List ℕ → ℕ
-decimal value [] = value
-decimal value (d ∷ ds) = decimal (value * 10 + (d - 48)) ds
+abbrev pub digits_value : ℕ → List ℕ → ℕ
+digits_value value [] = value
+digits_value value (d ∷ ds) = digits_value (value * 10 + (d - 48)) ds
 
 -- a number, or the greatest that a terminal holds, which exceeds every limit of the grammar
 abbrev pub number_of : List ℕ → ℕ
-number_of digits = min (decimal 0 digits) 18446744073709551615
+number_of digits = min (digits_value 0 digits) 18446744073709551615
 
 -- `undef` is reserved, and no rule of the grammar takes it
 abbrev pub other_word_of : List ℕ → Span → Terminal Span

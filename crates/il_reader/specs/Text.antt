@@ -1,5 +1,5 @@
 -- Which texts are written as a text of the grammar, and what the first refusal of form of another is.
-use Rattle.std.specs.Prelude.{◌≡◌, ℕ, ◌-◌, List, [], ◌∷◌, ◌++◌, map, length, get_or, slice_range, Some, None, Result, Ok, Err}
+use Rattle.std.specs.Prelude.{◌≡◌, ℕ, ◌-◌, List, [], ◌∷◌, ◌++◌, map, length, get_or, Some, None, Result, Ok, Err}
 use Rattle.std.specs.List.{position}
 use Rattle.token_machine.specs.Text.{Spells, IsFirstFault}
 use Rattle.token_machine.specs.declared.fault.Fault.{Fault}
@@ -9,6 +9,7 @@ use Rattle.il_grammar.specs.declared.syntax.Span.{Span}
 use Rattle.il_grammar.specs.declared.syntax.RawText.{RawText}
 use Rattle.il_grammar.specs.declared.rule.Rule.{Rule}
 use Rattle.il_grammar.specs.declared.rule.Rule.TheVariants.{P1, P2, P3}
+use Rattle.il_grammar.specs.Name.{name_text}
 use Rattle.il_grammar.specs.Grammar.{TextTree, spelling}
 use Rattle.il_grammar.specs.Mapped.{terminal_map}
 use Rattle.il_grammar.specs.Reading.{tree_of}
@@ -39,10 +40,6 @@ pub record Writes (bytes : List ℕ) (tree : TextTree Span) : Type 0 where
   pub headed : after_header bytes tokens ≡ Some rest
   pub spelled : Spells spelling (terminals_of bytes rest stop) tree
 
--- the bytes of a name
-abbrev pub name_text : List ℕ → Span → List ℕ
-name_text bytes name = slice_range bytes name.start name.end
-
 -- the bytes are a text that is written so, with texts for names
 pub record WritesNamed (bytes : List ℕ) (tree : TextTree (List ℕ)) : Type 0 where
   pub tokens : List Token
@@ -58,7 +55,8 @@ pub data IsFormRefusal (bytes : List ℕ) (r : Refusal) : Type 0 where
   foreign : (at : ℕ) → position is_foreign bytes ≡ Some at → r ≡ refusal_at bytes P1 at → IsFormRefusal bytes r
   headless : (tokens : List Token) (stop : Rest) → position is_foreign bytes ≡ None → Lexes 0 bytes tokens stop → after_header bytes tokens ≡ None
       → r ≡ refusal_at bytes P2 (place_at bytes tokens stop 0) → IsFormRefusal bytes r
-  faulty : (tokens : List Token) (stop : Rest) (rest : List Token) (f : Fault Rule) → position is_foreign bytes ≡ None → Lexes 0 bytes tokens stop → after_header bytes tokens ≡ Some rest
+  faulty : (tokens : List Token) (stop : Rest) (rest : List Token) (f : Fault Rule)
+      → position is_foreign bytes ≡ None → Lexes 0 bytes tokens stop → after_header bytes tokens ≡ Some rest
       → IsFirstFault spelling P3 (terminals_of bytes rest stop) f
       → r ≡ refusal_at bytes f.rule (place_at bytes tokens stop (length (starts tokens stop) - f.left)) → IsFormRefusal bytes r
 

@@ -74,7 +74,10 @@ fn text(alloc: Global, bytes: &[u8]) -> Result<RawText, ParseFault>
     }
 }
 
-/// The text as it is written, or the first refusal of its form: `P1` to `P5`.
+/// The text as it is written, which is shorter than 2^32 - 1 bytes.
+///
+/// # Errors
+/// The first refusal of its form: `P1`, else `P2`, else the first of `P3` to `P5`.
 pub fn read_text(alloc: Global, bytes: &[u8]) -> Result<RawText, ParseFault>
     requires { length bytes.now < 2 ^ 32 - 1 }
     // What is answered is written, and a refusal that is answered is the first of form.

@@ -3,7 +3,7 @@
 ghost use Rattle.std.specs.Prelude.{◌≡◌, ◌+◌, ◌≤◌, ◌-◌, ◌^◌, ◌∷◌, ◌++◌, map, min, length, slice_range, IfOk, None, Some, MatchOption};
 ghost use Rattle.std.specs.List.{All};
 ghost use Rattle.il_lexer.specs.Text.{rest_of};
-ghost use Rattle.il_reader.specs.Terminals.{decimal, number_of, word_of, other_word_of, operator_of, symbol_of, IsWithin, terminal_of, terminals_of, after_header, text_of};
+ghost use Rattle.il_reader.specs.Terminals.{digits_value, number_of, word_of, other_word_of, operator_of, symbol_of, IsWithin, terminal_of, terminals_of, after_header, text_of};
 
 use il_grammar::{Span, Terminal};
 use il_lexer::{Token, TokenKind};

@@ -18,10 +18,11 @@ use Rattle.il_lexer.proofs.LayoutLemmas.{laid_lexes, among}
 use Rattle.il_grammar.specs.declared.syntax.Span.{Span}
 use Rattle.il_grammar.specs.declared.terminal.Terminal.{Terminal}
 use Rattle.il_grammar.specs.declared.terminal.Terminal.TheVariants as t
+use Rattle.il_grammar.specs.Name.{name_text}
 use Rattle.il_grammar.specs.Grammar.{Marks, TextTree, spelling}
 use Rattle.il_grammar.specs.Mapped.{terminal_map}
 use Rattle.il_reader.specs.Terminals.{of_kind, terminal_of}
-use Rattle.il_reader.specs.Text.{WritesNamed, name_text}
+use Rattle.il_reader.specs.Text.{WritesNamed}
 use Rattle.round_trip.proofs.Laid.{AreRead, Laid}
 
 -- the slice of the bytes that stand at a place is these bytes

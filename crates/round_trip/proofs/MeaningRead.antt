@@ -15,9 +15,10 @@ use Rattle.il_grammar.specs.declared.syntax.Span.{Span}
 use Rattle.il_grammar.specs.declared.syntax.RawAtom.{RawAtom}
 use Rattle.il_grammar.specs.declared.syntax.RawAtom.TheVariants.{Constant, Named}
 use Rattle.il_grammar.specs.declared.syntax.RawUpdate.TheVariants.{Add as Adding, Swap as Swapping}
+use Rattle.il_grammar.specs.Name.{name_text}
 use Rattle.il_grammar.specs.Grammar.{Snoc, empty, append, Simple, skip, store, print, copy, compute, load, update, cas, call, Tree, simply, choice, choice_else, repeat, Trees, no_tree, add_tree}
 use Rattle.il_grammar.specs.Mapped.{snoc_map, atom_map, simple_map, tree_map, trees_map}
-use Rattle.il_names.specs.Known.{Known, name_text, number_of, snoc_length}
+use Rattle.il_names.specs.Known.{Known, number_of, snoc_length}
 use Rattle.il_names.specs.Meaning.{block, choice_meaning, atom_meaning, atoms_meaning, simple_meaning, tree_meaning, trees_meaning}
 use Rattle.il_names.specs.Faults.{unless, count, count_all, too_many_statements, register_faults, atom_faults, na_faults, atomic_faults, arity_faults, function_faults, atoms_faults, simple_faults, tree_faults, trees_faults}
 use Rattle.il_names.proofs.Lists.{none_in_both, none_in_three, none_in_four, none_in_five}

@@ -3,7 +3,9 @@
 //! A grammar is a function from trees to marked tokens: a mark is a token with the limit that it
 //! exceeds where it stands, if any. A list of tokens is a viable prefix where some further tokens
 //! make it a text of the grammar, whatever limits it exceeds. The first fault of a text stands at
-//! the first token with which it is no viable prefix any more, or which exceeds a limit.
+//! the first token with which it is no viable prefix any more, or which exceeds a limit. Without the
+//! limits this is where an LR(1) parser stops too (Knuth, "On the translation of languages from left
+//! to right", 1965), which has the viable-prefix property.
 //!
 //! A machine with one state for each thing that was read is the device by which a reader is proved:
 //! what it answers is the tree, or the first fault, exactly (`specs/Text` has the meaning,
