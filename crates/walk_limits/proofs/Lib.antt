@@ -1,0 +1,6 @@
+pub mod ResultValues
+pub mod Listed
+pub mod Constants
+pub mod ThreadValues
+pub mod MemoryValues
+pub mod RunValues
