@@ -1,0 +1,19 @@
+il 1
+na x = 0;
+atomic f = 0;
+fn p() {
+  store x, 5;
+  store rel f, 1;
+  store rlx f, 2;
+  return 0;
+}
+fn q() {
+  reg s, t;
+  s = load acq f;
+  t = load x;
+  print s;
+  print t;
+  return 0;
+}
+thread p();
+thread q();
