@@ -1,9 +1,10 @@
 //! What picks among the choices of an access, and how a run asks it.
 ghost use Rattle.std.specs.Prelude.{◌≡◌, ℕ, Bool, false, ◌<◌, ◌≤◌, IsTrue};
-ghost use Rattle.message_memory.specs.Memory.{IsClosed, HasSmallTimestamps};
+ghost use Rattle.message_memory.specs.Memory.{IsClosedView, HasSmallTimestamps};
 ghost use Rattle.message_memory.specs.Step.{IsLegal, IsProper};
 ghost use Rattle.message_memory.specs.Candidates.{IsAtomic};
-ghost use Rattle.chooser.specs.Chosen.{leaves_choice, IsChosen, chooser_after};
+ghost use Rattle.values_undef.specs.Access.{leaves_choice};
+ghost use Rattle.chooser.specs.Chosen.{IsChosen, chooser_after};
 
 use message_memory::{MessageMemory, laws};
 use values_undef::{Access, Choice};
@@ -47,7 +48,7 @@ pub fn choose<M: MessageMemory, C: Chooser>(
     a: &Access,
 ) -> Choice
     requires served { IsTrue (C.serves ch.old thread) }
-    requires closed { IsClosed (M.contents m.now) view.now }
+    requires closed { IsClosedView (M.contents m.now) view.now }
     requires proper { IsProper (M.contents m.now) a.now }
     requires small { HasSmallTimestamps (M.contents m.now) }
     ensures choice { IsChosen C.answer (M.contents m.now) view.now a.now ch.old thread result }
@@ -65,18 +66,11 @@ pub fn choose<M: MessageMemory, C: Chooser>(
 }
 
 /// Whether the access leaves a choice: whether it is one to an atomic location.
+#[tactic(auto, using(message_memory::proofs::Callers::leaves_atomic, message_memory::proofs::Callers::plain_leaves))]
 fn leaves_choice(a: &Access) -> bool
     ensures value { result ≡ leaves_choice a.now }
     ensures atomic { IsTrue result → IsAtomic a.now }
     ensures plain { result ≡ false → IsAtomic a.now → ⊥ }
 {
-    match a {
-        Access::Read { .. } | Access::Write { .. } | Access::Update { .. } => true,
-        Access::NaRead { .. }
-        | Access::NaWrite { .. }
-        | Access::Print { .. }
-        | Access::Fail { .. }
-        | Access::Finish
-        | Access::Spend => false,
-    }
+    a.leaves_choice()
 }

@@ -16,11 +16,11 @@ use Rattle.il_grammar.specs.declared.syntax.RawOrder.{RawOrder}
 use Rattle.il_grammar.specs.declared.syntax.RawUpdate.{RawUpdate}
 use Rattle.il_grammar.specs.declared.syntax.RawUpdate.TheVariants.{Add as Adding, Swap as Swapping}
 use Rattle.il_grammar.specs.declared.syntax.RawLocation.{RawLocation}
-use Rattle.il_grammar.specs.Grammar.{Snoc, empty, append, Simple, skip, store, print, copy, compute, load, update, cas, call, Tree, simply, choice, choice_else, repeat, Trees, no_tree, add_tree, Routine, Thread, TextTree, Marks, number_up_to, open_at, literal, name, atom, order, order_if_any, update_word, listed, listed_if_any, each, simple, statement, statements, location_word, location, registers, function, thread, spelling, past, past_depth}
-use Rattle.il_grammar.specs.Machine.{Opening, Head, ThreadHead, Stack, bottom, inner, Frame, in_yes, in_no, in_body, UpdateUse, updating, comparing, NameUse, of_location, of_function, of_parameter, of_register, stored, loaded, updated, called, of_thread, AtomUse, printed, chosen, repeated, second_of, value_of, operand_of, new_of, argument_of, returned, assigned, LiteralUse, of_location_value, of_thread_argument, State, begin, at_version, at_locations, at_name, at_location_equals, at_literal, at_literal_magnitude, at_location_end, at_functions, at_parameters, at_parameter_list, after_parameter, at_body, at_registers, after_register, ready, at_semicolon, at_equals, at_right, at_atom, at_magnitude, after_operand, at_store, at_store_comma, at_load, at_update_order, at_update_comma, at_cas_comma, at_arguments, at_argument_list, after_argument, at_block, after_yes, at_return_end, at_function_close, at_threads, at_thread_arguments, at_literal_list, after_literal, at_thread_end, opening, head, thread_head, finished, finished_thread, text_tree, depth_of, inner_depth, after_name, after_operand_of, after_atom, after_literal_of, close_block, close, leave, from_atom, from_literal, from_ready, from_threads, from_functions, step, finish}
+use Rattle.il_grammar.specs.Grammar.{Snoc, empty, append, Simple, skip, store, fence, print, copy, compute, load, update, cas, call, Tree, simply, choice, choice_else, repeat, Trees, no_tree, add_tree, Routine, Thread, TextTree, Marks, number_up_to, open_at, literal, name, atom, order, order_if_any, update_word, listed, listed_if_any, each, simple, statement, statements, location_word, location, registers, function, thread, spelling, past, past_depth}
+use Rattle.il_grammar.specs.Machine.{Opening, ReaderHead, ThreadHead, Stack, bottom, inner, Frame, in_yes, in_no, in_body, UpdateUse, updating, comparing, NameUse, of_location, of_function, of_parameter, of_register, stored, loaded, updated, called, of_thread, AtomUse, printed, chosen, repeated, second_of, value_of, operand_of, new_of, argument_of, returned, assigned, LiteralUse, of_location_value, of_thread_argument, ReaderState, begin, at_version, at_locations, at_name, at_location_equals, at_literal, at_literal_magnitude, at_location_end, at_functions, at_parameters, at_parameter_list, after_parameter, at_body, at_registers, after_register, ready, at_semicolon, at_equals, at_right, at_atom, at_magnitude, after_operand, at_store, at_store_comma, at_load, at_update_order, at_update_comma, at_cas_comma, at_arguments, at_argument_list, after_argument, at_block, after_yes, at_return_end, at_function_close, at_threads, at_thread_arguments, at_literal_list, after_literal, at_thread_end, opening, head, thread_head, finished, finished_thread, text_tree, depth_of, inner_depth, after_name, after_operand_of, after_atom, after_literal_of, close_block, close, leave, from_atom, from_literal, from_ready, from_threads, from_functions, step, finish}
 
 module _ {N : Type 0} where
-  abbrev Leads : TextTree N → State N → Marks N → Type 0
+  abbrev Leads : TextTree N → ReaderState N → Marks N → Type 0
   Leads p = Accepts step finish p
 
   -- the marks go on with a token, and no `else` and no `reg`
@@ -47,6 +47,7 @@ module _ {N : Type 0} where
   simple_opens : (x : Simple N) (rest : Marks N) → Opens (simple x rest)
   simple_opens (skip w) rest = ((λ e. cc), (λ e. cc))
   simple_opens (store w o x a) rest = ((λ e. cc), (λ e. cc))
+  simple_opens (fence w o) rest = ((λ e. cc), (λ e. cc))
   simple_opens (print w a) rest = ((λ e. cc), (λ e. cc))
   simple_opens (copy r a) rest = ((λ e. cc), (λ e. cc))
   simple_opens (compute r a op b) rest = ((λ e. cc), (λ e. cc))
@@ -112,6 +113,7 @@ module _ {N : Type 0} where
   simple_leads : (x : Simple N) (k : Stack N) (xs : Trees N) (p : TextTree N) (rest : Marks N) → Leads p (ready k (add_tree xs (simply x))) rest → Leads p (ready k xs) (simple x (plain t.Semicolon ∷ rest))
   simple_leads (skip w) k xs p rest l = moves refl (moves refl l)
   simple_leads (store w o x a) k xs p rest l = moves refl (store_leads k xs w p o x _ (moves refl (atom_leads (value_of k xs w o x) p a _ (moves refl l))))
+  simple_leads (fence w o) k xs p rest l = moves refl (moves refl (moves refl l))
   simple_leads (print w a) k xs p rest l = moves refl (atom_leads (printed k xs w) p a _ (moves refl l))
   simple_leads (copy r a) k xs p rest l = moves refl (moves refl (right_leads k xs r p a _ (moves refl l)))
   simple_leads (compute r a op b) k xs p rest l = moves refl (moves refl (right_leads k xs r p a _ (moves refl (atom_leads (second_of k xs r a op) p b _ (moves refl l)))))

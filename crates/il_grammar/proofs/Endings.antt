@@ -16,23 +16,23 @@ use Rattle.il_grammar.specs.declared.syntax.RawOrder.{RawOrder}
 use Rattle.il_grammar.specs.declared.syntax.RawUpdate.{RawUpdate}
 use Rattle.il_grammar.specs.declared.syntax.RawUpdate.TheVariants.{Add as Adding, Swap as Swapping}
 use Rattle.il_grammar.specs.declared.syntax.RawLocation.{RawLocation}
-use Rattle.il_grammar.specs.Grammar.{Snoc, empty, append, Simple, skip, store, print, copy, compute, load, update, cas, call, Tree, simply, choice, choice_else, repeat, Trees, no_tree, add_tree, Routine, Thread, TextTree, Marks, number_up_to, open_at, literal, name, atom, order, order_if_any, update_word, listed, listed_if_any, each, simple, statement, statements, location_word, location, registers, function, thread, spelling, past, past_depth}
-use Rattle.il_grammar.specs.Machine.{Opening, Head, ThreadHead, Stack, bottom, inner, Frame, in_yes, in_no, in_body, UpdateUse, updating, comparing, NameUse, of_location, of_function, of_parameter, of_register, stored, loaded, updated, called, of_thread, AtomUse, printed, chosen, repeated, second_of, value_of, operand_of, new_of, argument_of, returned, assigned, LiteralUse, of_location_value, of_thread_argument, State, begin, at_version, at_locations, at_name, at_location_equals, at_literal, at_literal_magnitude, at_location_end, at_functions, at_parameters, at_parameter_list, after_parameter, at_body, at_registers, after_register, ready, at_semicolon, at_equals, at_right, at_atom, at_magnitude, after_operand, at_store, at_store_comma, at_load, at_update_order, at_update_comma, at_cas_comma, at_arguments, at_argument_list, after_argument, at_block, after_yes, at_return_end, at_function_close, at_threads, at_thread_arguments, at_literal_list, after_literal, at_thread_end, opening, head, thread_head, finished, finished_thread, text_tree, depth_of, inner_depth, after_name, after_operand_of, after_atom, after_literal_of, close_block, close, leave, from_atom, from_literal, from_ready, from_threads, from_functions, step, finish}
+use Rattle.il_grammar.specs.Grammar.{Snoc, empty, append, Simple, skip, store, fence, print, copy, compute, load, update, cas, call, Tree, simply, choice, choice_else, repeat, Trees, no_tree, add_tree, Routine, Thread, TextTree, Marks, number_up_to, open_at, literal, name, atom, order, order_if_any, update_word, listed, listed_if_any, each, simple, statement, statements, location_word, location, registers, function, thread, spelling, past, past_depth}
+use Rattle.il_grammar.specs.Machine.{Opening, ReaderHead, ThreadHead, Stack, bottom, inner, Frame, in_yes, in_no, in_body, UpdateUse, updating, comparing, NameUse, of_location, of_function, of_parameter, of_register, stored, loaded, updated, called, of_thread, AtomUse, printed, chosen, repeated, second_of, value_of, operand_of, new_of, argument_of, returned, assigned, LiteralUse, of_location_value, of_thread_argument, ReaderState, begin, at_version, at_locations, at_name, at_location_equals, at_literal, at_literal_magnitude, at_location_end, at_functions, at_parameters, at_parameter_list, after_parameter, at_body, at_registers, after_register, ready, at_semicolon, at_equals, at_right, at_atom, at_magnitude, after_operand, at_store, at_store_comma, at_load, at_update_order, at_update_comma, at_cas_comma, at_arguments, at_argument_list, after_argument, at_block, after_yes, at_return_end, at_function_close, at_threads, at_thread_arguments, at_literal_list, after_literal, at_thread_end, opening, head, thread_head, finished, finished_thread, text_tree, depth_of, inner_depth, after_name, after_operand_of, after_atom, after_literal_of, close_block, close, leave, from_atom, from_literal, from_ready, from_threads, from_functions, step, finish}
 use Rattle.il_grammar.proofs.Trace.{mark, listed_commas, located, functioned, threaded, in_parentheses, in_braces, before, assigning, before_thread, written, step_keeps, after_name_keeps, after_atom_keeps, after_literal_keeps}
 
 -- one way on is enough; a name is needed on it
 module _ {N : Type 0} (any : N) where
-  abbrev CanEnd : State N → Type 0
+  abbrev CanEnd : ReaderState N → Type 0
   CanEnd = Ending spelling written
 
   -- a state from which a move leads to one that can end can end
-  before_move : (s next : State N) (m : Mark (Terminal N) Rule) → ((rest : Marks N) → written next rest ≡ written s (m ∷ rest)) → CanEnd next → CanEnd s
+  before_move : (s next : ReaderState N) (m : Mark (Terminal N) Rule) → ((rest : Marks N) → written next rest ≡ written s (m ∷ rest)) → CanEnd next → CanEnd s
   before_move s next m kept e = record { marks = m ∷ e.marks; tree = e.tree; text = e.text ∙ kept e.marks }
 
-  at_end : (s : State N) (p : TextTree N) → spelling p ≡ written s [] → CanEnd s
+  at_end : (s : ReaderState N) (p : TextTree N) → spelling p ≡ written s [] → CanEnd s
   at_end s p e = record { marks = []; tree = p; text = e }
 
-  same_text : (s other : State N) → ((rest : Marks N) → written s rest ≡ written other rest) → CanEnd s → CanEnd other
+  same_text : (s other : ReaderState N) → ((rest : Marks N) → written s rest ≡ written other rest) → CanEnd s → CanEnd other
   same_text s other same e = record { marks = e.marks; tree = e.tree; text = e.text ∙ same e.marks }
 
   abbrev zero : RawAtom N
@@ -41,10 +41,10 @@ module _ {N : Type 0} (any : N) where
   abbrev rlx : RawOrder N
   rlx = record { order = Rlx; word = any }
 
-  function_ending : (h : Head N) (xs : Trees N) (a : RawAtom N) → CanEnd (at_function_close h xs a)
+  function_ending : (h : ReaderHead N) (xs : Trees N) (a : RawAtom N) → CanEnd (at_function_close h xs a)
   function_ending h xs a = record { marks = plain t.Close ∷ []; tree = text_tree h.opening.locations (append h.opening.functions (finished h xs a)) empty; text = refl }
 
-  return_ending : (h : Head N) (xs : Trees N) (a : RawAtom N) → CanEnd (at_return_end h xs a)
+  return_ending : (h : ReaderHead N) (xs : Trees N) (a : RawAtom N) → CanEnd (at_return_end h xs a)
   return_ending h xs a = before_move _ _ (plain t.Semicolon) (λ rest. refl) (function_ending h xs a)
 
   mutual
@@ -192,7 +192,7 @@ module _ {N : Type 0} (any : N) where
   version_ending : CanEnd at_version
   version_ending = before_move _ (at_locations empty) (plain t.Version) (λ rest. refl) (locations_ending empty)
 
-  pub ending : (s : State N) → CanEnd s
+  pub ending : (s : ReaderState N) → CanEnd s
   ending begin = before_move _ at_version (plain t.Il) (λ rest. refl) version_ending
   ending at_version = version_ending
   ending (at_locations ls) = locations_ending ls

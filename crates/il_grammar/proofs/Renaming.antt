@@ -16,12 +16,11 @@ use Rattle.il_grammar.specs.declared.syntax.RawOrder.{RawOrder}
 use Rattle.il_grammar.specs.declared.syntax.RawUpdate.{RawUpdate}
 use Rattle.il_grammar.specs.declared.syntax.RawUpdate.TheVariants.{Add as Adding, Swap as Swapping}
 use Rattle.il_grammar.specs.declared.syntax.RawLocation.{RawLocation}
-use Rattle.il_grammar.specs.Grammar.{Snoc, empty, append, Simple, skip, store, print, copy, compute, load, update, cas, call, Tree, simply, choice, choice_else, repeat, Trees, no_tree, add_tree, Routine, Thread, TextTree, Marks, number_up_to, open_at, literal, name, atom, order, order_if_any, update_word, listed, listed_if_any, each, simple, statement, statements, location_word, location, registers, function, thread, spelling, past, past_depth}
-use Rattle.il_grammar.specs.Machine.{Opening, Head, ThreadHead, Stack, bottom, inner, Frame, in_yes, in_no, in_body, UpdateUse, updating, comparing, NameUse, of_location, of_function, of_parameter, of_register, stored, loaded, updated, called, of_thread, AtomUse, printed, chosen, repeated, second_of, value_of, operand_of, new_of, argument_of, returned, assigned, LiteralUse, of_location_value, of_thread_argument, State, begin, at_version, at_locations, at_name, at_location_equals, at_literal, at_literal_magnitude, at_location_end, at_functions, at_parameters, at_parameter_list, after_parameter, at_body, at_registers, after_register, ready, at_semicolon, at_equals, at_right, at_atom, at_magnitude, after_operand, at_store, at_store_comma, at_load, at_update_order, at_update_comma, at_cas_comma, at_arguments, at_argument_list, after_argument, at_block, after_yes, at_return_end, at_function_close, at_threads, at_thread_arguments, at_literal_list, after_literal, at_thread_end, opening, head, thread_head, finished, finished_thread, text_tree, depth_of, inner_depth, after_name, after_operand_of, after_atom, after_literal_of, close_block, close, leave, from_atom, from_literal, from_ready, from_threads, from_functions, step, finish}
+use Rattle.il_grammar.specs.Grammar.{Snoc, empty, append, Simple, skip, store, fence, print, copy, compute, load, update, cas, call, Tree, simply, choice, choice_else, repeat, Trees, no_tree, add_tree, Routine, Thread, TextTree, Marks, number_up_to, open_at, literal, name, atom, order, order_if_any, update_word, listed, listed_if_any, each, simple, statement, statements, location_word, location, registers, function, thread, spelling, past, past_depth}
+use Rattle.il_grammar.specs.Machine.{Opening, ReaderHead, ThreadHead, Stack, bottom, inner, Frame, in_yes, in_no, in_body, UpdateUse, updating, comparing, NameUse, of_location, of_function, of_parameter, of_register, stored, loaded, updated, called, of_thread, AtomUse, printed, chosen, repeated, second_of, value_of, operand_of, new_of, argument_of, returned, assigned, LiteralUse, of_location_value, of_thread_argument, ReaderState, begin, at_version, at_locations, at_name, at_location_equals, at_literal, at_literal_magnitude, at_location_end, at_functions, at_parameters, at_parameter_list, after_parameter, at_body, at_registers, after_register, ready, at_semicolon, at_equals, at_right, at_atom, at_magnitude, after_operand, at_store, at_store_comma, at_load, at_update_order, at_update_comma, at_cas_comma, at_arguments, at_argument_list, after_argument, at_block, after_yes, at_return_end, at_function_close, at_threads, at_thread_arguments, at_literal_list, after_literal, at_thread_end, opening, head, thread_head, finished, finished_thread, text_tree, depth_of, inner_depth, after_name, after_operand_of, after_atom, after_literal_of, close_block, close, leave, from_atom, from_literal, from_ready, from_threads, from_functions, step, finish}
 use Rattle.token_machine.specs.Mapped.{move_map, answer_map, finish_map}
 use Rattle.token_machine.specs.declared.fault.Fault.{Fault}
-use Rattle.token_machine.proofs.Mapped.{answer_mapped}
-use Rattle.token_machine.proofs.Faults.{spells_answer, answer_spells}
+use Rattle.token_machine.proofs.Callers.{answer_mapped, spells_answer, answer_spells}
 use Rattle.il_grammar.specs.declared.rule.Rule.TheVariants.{P3}
 use Rattle.il_grammar.specs.Machine.{answer}
 use Rattle.il_grammar.specs.Mapped.{snoc_map, terminal_map, atom_map, order_map, option_order_map, simple_map, tree_map, trees_map, location_map, routine_map, thread_map, text_map}
@@ -31,7 +30,7 @@ module _ {N M : Type 0} (f : N → M) where
   abbrev opening_map : Opening N → Opening M
   opening_map o = record { locations = snoc_map (location_map f) o.locations; functions = snoc_map (routine_map f) o.functions; name = f o.name }
 
-  abbrev head_map : Head N → Head M
+  abbrev head_map : ReaderHead N → ReaderHead M
   head_map h = record { opening = opening_map h.opening; parameters = snoc_map f h.parameters; registers = snoc_map f h.registers }
 
   abbrev thread_head_map : ThreadHead N → ThreadHead M
@@ -78,7 +77,7 @@ module _ {N M : Type 0} (f : N → M) where
   literal_use_map (of_location_value ls kind n) = of_location_value (snoc_map (location_map f) ls) kind (f n)
   literal_use_map (of_thread_argument h args) = of_thread_argument (thread_head_map h) args
 
-  abbrev state_map : State N → State M
+  abbrev state_map : ReaderState N → ReaderState M
   state_map begin = begin
   state_map at_version = at_version
   state_map (at_locations ls) = at_locations (snoc_map (location_map f) ls)
@@ -192,7 +191,7 @@ module _ {N M : Type 0} (f : N → M) where
   functions_mapped ls fs t.Fn = refl
   functions_mapped ls fs x = threads_mapped ls fs empty x
 
-  step_mapped : (s : State N) (x : Terminal N) → step (state_map s) (terminal_map f x) ≡ move_map state_map (step s x)
+  step_mapped : (s : ReaderState N) (x : Terminal N) → step (state_map s) (terminal_map f x) ≡ move_map state_map (step s x)
   step_mapped begin t.Il = refl
   step_mapped begin _ = refl
   step_mapped at_version t.Version = refl
@@ -229,6 +228,7 @@ module _ {N M : Type 0} (f : N → M) where
   step_mapped (at_semicolon k xs s) t.Semicolon = refl
   step_mapped (at_semicolon k xs s) _ = refl
   step_mapped (at_equals k xs r) t.Equals = refl
+  step_mapped (at_equals k xs r) (t.FenceOrder o v) = refl
   step_mapped (at_equals k xs r) _ = refl
   step_mapped (at_right k xs r) t.Load = refl
   step_mapped (at_right k xs r) t.Add = refl
@@ -282,7 +282,7 @@ module _ {N M : Type 0} (f : N → M) where
   step_mapped (at_thread_end h args) t.Semicolon = refl
   step_mapped (at_thread_end h args) _ = refl
 
-  finish_mapped : (s : State N) → finish (state_map s) ≡ finish_map (text_map f) (finish s)
+  finish_mapped : (s : ReaderState N) → finish (state_map s) ≡ finish_map (text_map f) (finish s)
   finish_mapped (at_locations ls) = refl
   finish_mapped (at_functions ls fs) = refl
   finish_mapped (at_threads ls fs ts) = refl

@@ -16,8 +16,8 @@ use Rattle.il_grammar.specs.declared.syntax.RawOrder.{RawOrder}
 use Rattle.il_grammar.specs.declared.syntax.RawUpdate.{RawUpdate}
 use Rattle.il_grammar.specs.declared.syntax.RawUpdate.TheVariants.{Add as Adding, Swap as Swapping}
 use Rattle.il_grammar.specs.declared.syntax.RawLocation.{RawLocation}
-use Rattle.il_grammar.specs.Grammar.{Snoc, empty, append, Simple, skip, store, print, copy, compute, load, update, cas, call, Tree, simply, choice, choice_else, repeat, Trees, no_tree, add_tree, Routine, Thread, TextTree, Marks, number_up_to, open_at, literal, name, atom, order, order_if_any, update_word, listed, listed_if_any, each, simple, statement, statements, location_word, location, registers, function, thread, spelling, past, past_depth}
-use Rattle.il_grammar.specs.Machine.{Opening, Head, ThreadHead, Stack, bottom, inner, Frame, in_yes, in_no, in_body, UpdateUse, updating, comparing, NameUse, of_location, of_function, of_parameter, of_register, stored, loaded, updated, called, of_thread, AtomUse, printed, chosen, repeated, second_of, value_of, operand_of, new_of, argument_of, returned, assigned, LiteralUse, of_location_value, of_thread_argument, State, begin, at_version, at_locations, at_name, at_location_equals, at_literal, at_literal_magnitude, at_location_end, at_functions, at_parameters, at_parameter_list, after_parameter, at_body, at_registers, after_register, ready, at_semicolon, at_equals, at_right, at_atom, at_magnitude, after_operand, at_store, at_store_comma, at_load, at_update_order, at_update_comma, at_cas_comma, at_arguments, at_argument_list, after_argument, at_block, after_yes, at_return_end, at_function_close, at_threads, at_thread_arguments, at_literal_list, after_literal, at_thread_end, opening, head, thread_head, finished, finished_thread, text_tree, depth_of, inner_depth, after_name, after_operand_of, after_atom, after_literal_of, close_block, close, leave, from_atom, from_literal, from_ready, from_threads, from_functions, step, finish}
+use Rattle.il_grammar.specs.Grammar.{Snoc, empty, append, Simple, skip, store, fence, print, copy, compute, load, update, cas, call, Tree, simply, choice, choice_else, repeat, Trees, no_tree, add_tree, Routine, Thread, TextTree, Marks, number_up_to, open_at, literal, name, atom, order, order_if_any, update_word, listed, listed_if_any, each, simple, statement, statements, location_word, location, registers, function, thread, spelling, past, past_depth}
+use Rattle.il_grammar.specs.Machine.{Opening, ReaderHead, ThreadHead, Stack, bottom, inner, Frame, in_yes, in_no, in_body, UpdateUse, updating, comparing, NameUse, of_location, of_function, of_parameter, of_register, stored, loaded, updated, called, of_thread, AtomUse, printed, chosen, repeated, second_of, value_of, operand_of, new_of, argument_of, returned, assigned, LiteralUse, of_location_value, of_thread_argument, ReaderState, begin, at_version, at_locations, at_name, at_location_equals, at_literal, at_literal_magnitude, at_location_end, at_functions, at_parameters, at_parameter_list, after_parameter, at_body, at_registers, after_register, ready, at_semicolon, at_equals, at_right, at_atom, at_magnitude, after_operand, at_store, at_store_comma, at_load, at_update_order, at_update_comma, at_cas_comma, at_arguments, at_argument_list, after_argument, at_block, after_yes, at_return_end, at_function_close, at_threads, at_thread_arguments, at_literal_list, after_literal, at_thread_end, opening, head, thread_head, finished, finished_thread, text_tree, depth_of, inner_depth, after_name, after_operand_of, after_atom, after_literal_of, close_block, close, leave, from_atom, from_literal, from_ready, from_threads, from_functions, step, finish}
 
 module _ {N : Type 0} where
   abbrev pub mark : Terminal N → Option Rule → Mark (Terminal N) Rule
@@ -56,7 +56,7 @@ module _ {N : Type 0} where
   abbrev pub in_braces : Opening N → Snoc N → Marks N → Marks N
   in_braces o ps rest = with_parameters o ps (plain t.Open ∷ rest)
 
-  abbrev pub headed : Head N → Marks N → Marks N
+  abbrev pub headed : ReaderHead N → Marks N → Marks N
   headed h rest = in_braces h.opening h.parameters (registers h.registers rest)
 
   abbrev mutual
@@ -114,7 +114,7 @@ module _ {N : Type 0} where
   before_literal (of_thread_argument h args) rest = before_thread h (plain t.LeftParen ∷ with_commas literal args rest)
 
   -- the tokens that led to a state, and then the rest
-  abbrev pub written : State N → Marks N → Marks N
+  abbrev pub written : ReaderState N → Marks N → Marks N
   written begin rest = rest
   written at_version rest = plain t.Il ∷ rest
   written (at_locations ls) rest = located ls rest
@@ -225,7 +225,7 @@ module _ {N : Type 0} where
   functions_keep ls fs t.Fn = λ rest. refl
   functions_keep ls fs x = threads_keep ls fs empty x
 
-  pub step_keeps : (s : State N) (x : Terminal N) → Keeps written s x (step s x)
+  pub step_keeps : (s : ReaderState N) (x : Terminal N) → Keeps written s x (step s x)
   step_keeps begin t.Il = λ rest. refl
   step_keeps begin _ = tt
   step_keeps at_version t.Version = λ rest. refl
@@ -262,6 +262,7 @@ module _ {N : Type 0} where
   step_keeps (at_semicolon k xs s) t.Semicolon = λ rest. refl
   step_keeps (at_semicolon k xs s) _ = tt
   step_keeps (at_equals k xs r) t.Equals = λ rest. refl
+  step_keeps (at_equals k xs r) (t.FenceOrder o v) = λ rest. refl
   step_keeps (at_equals k xs r) _ = tt
   step_keeps (at_right k xs r) t.Load = λ rest. refl
   step_keeps (at_right k xs r) t.Add = λ rest. refl

@@ -17,7 +17,7 @@ use Rattle.il_grammar.specs.declared.syntax.RawOrder.{RawOrder}
 use Rattle.il_grammar.specs.declared.syntax.RawUpdate.{RawUpdate}
 use Rattle.il_grammar.specs.declared.syntax.RawUpdate.TheVariants.{Add as Adding, Swap as Swapping}
 use Rattle.il_grammar.specs.declared.syntax.RawLocation.{RawLocation}
-use Rattle.il_grammar.specs.Grammar.{Snoc, empty, append, Simple, skip, store, print, copy, compute, load, update, cas, call, Tree, simply, choice, choice_else, repeat, Trees, no_tree, add_tree, Routine, Thread, TextTree, past, past_depth}
+use Rattle.il_grammar.specs.Grammar.{Snoc, empty, append, Simple, skip, store, fence, print, copy, compute, load, update, cas, call, Tree, simply, choice, choice_else, repeat, Trees, no_tree, add_tree, Routine, Thread, TextTree, past, past_depth}
 
 -- what stands before the function that is read, with its name
 pub record Opening (N : Type 0) : Type 0 where
@@ -26,7 +26,7 @@ pub record Opening (N : Type 0) : Type 0 where
   pub name : N
 
 -- a function whose body is read, with what stands before it
-pub record Head (N : Type 0) : Type 0 where
+pub record ReaderHead (N : Type 0) : Type 0 where
   pub opening : Opening N
   pub parameters : Snoc N
   pub registers : Snoc N
@@ -42,7 +42,7 @@ pub record ThreadHead (N : Type 0) : Type 0 where
 -- the blocks that are open, each with what stands before it
 mutual
   pub data Stack (N : Type 0) : Type 0 where
-    bottom : Head N → Stack N
+    bottom : ReaderHead N → Stack N
     inner : Frame N → Stack N
 
   pub data Frame (N : Type 0) : Type 0 where
@@ -77,7 +77,7 @@ pub data AtomUse (N : Type 0) : Type 0 where
   operand_of : UpdateUse N → RawOrder N → N → AtomUse N
   new_of : Stack N → Trees N → N → RawOrder N → N → RawAtom N → AtomUse N
   argument_of : Stack N → Trees N → N → N → Snoc (RawAtom N) → AtomUse N
-  returned : Head N → Trees N → AtomUse N
+  returned : ReaderHead N → Trees N → AtomUse N
   assigned : Stack N → Trees N → N → AtomUse N
 
 -- whose literal is read
@@ -85,59 +85,59 @@ pub data LiteralUse (N : Type 0) : Type 0 where
   of_location_value : Snoc (RawLocation N) → Bool → N → LiteralUse N
   of_thread_argument : ThreadHead N → Snoc Literal → LiteralUse N
 
-pub data State (N : Type 0) : Type 0 where
-  begin : State N
-  at_version : State N
-  at_locations : Snoc (RawLocation N) → State N
-  at_name : NameUse N → State N
-  at_location_equals : Snoc (RawLocation N) → Bool → N → State N
-  at_literal : LiteralUse N → State N
-  at_literal_magnitude : LiteralUse N → State N
-  at_location_end : Snoc (RawLocation N) → RawLocation N → State N
-  at_functions : Snoc (RawLocation N) → Snoc (Routine N) → State N
-  at_parameters : Opening N → State N
-  at_parameter_list : Opening N → State N
-  after_parameter : Opening N → Snoc N → N → State N
-  at_body : Opening N → Snoc N → State N
-  at_registers : Opening N → Snoc N → State N
-  after_register : Opening N → Snoc N → Snoc N → N → State N
-  ready : Stack N → Trees N → State N
-  at_semicolon : Stack N → Trees N → Simple N → State N
-  at_equals : Stack N → Trees N → N → State N
-  at_right : Stack N → Trees N → N → State N
-  at_atom : AtomUse N → State N
-  at_magnitude : AtomUse N → State N
-  after_operand : Stack N → Trees N → N → RawAtom N → State N
-  at_store : Stack N → Trees N → N → State N
-  at_store_comma : Stack N → Trees N → N → Option (RawOrder N) → N → State N
-  at_load : Stack N → Trees N → N → State N
-  at_update_order : UpdateUse N → State N
-  at_update_comma : UpdateUse N → RawOrder N → N → State N
-  at_cas_comma : Stack N → Trees N → N → RawOrder N → N → RawAtom N → State N
-  at_arguments : Stack N → Trees N → N → N → State N
-  at_argument_list : Stack N → Trees N → N → N → State N
-  after_argument : Stack N → Trees N → N → N → Snoc (RawAtom N) → RawAtom N → State N
-  at_block : Frame N → State N
-  after_yes : Stack N → Trees N → N → RawAtom N → Trees N → State N
-  at_return_end : Head N → Trees N → RawAtom N → State N
-  at_function_close : Head N → Trees N → RawAtom N → State N
-  at_threads : Snoc (RawLocation N) → Snoc (Routine N) → Snoc (Thread N) → State N
-  at_thread_arguments : ThreadHead N → State N
-  at_literal_list : ThreadHead N → State N
-  after_literal : ThreadHead N → Snoc Literal → Literal → State N
-  at_thread_end : ThreadHead N → Snoc Literal → State N
+pub data ReaderState (N : Type 0) : Type 0 where
+  begin : ReaderState N
+  at_version : ReaderState N
+  at_locations : Snoc (RawLocation N) → ReaderState N
+  at_name : NameUse N → ReaderState N
+  at_location_equals : Snoc (RawLocation N) → Bool → N → ReaderState N
+  at_literal : LiteralUse N → ReaderState N
+  at_literal_magnitude : LiteralUse N → ReaderState N
+  at_location_end : Snoc (RawLocation N) → RawLocation N → ReaderState N
+  at_functions : Snoc (RawLocation N) → Snoc (Routine N) → ReaderState N
+  at_parameters : Opening N → ReaderState N
+  at_parameter_list : Opening N → ReaderState N
+  after_parameter : Opening N → Snoc N → N → ReaderState N
+  at_body : Opening N → Snoc N → ReaderState N
+  at_registers : Opening N → Snoc N → ReaderState N
+  after_register : Opening N → Snoc N → Snoc N → N → ReaderState N
+  ready : Stack N → Trees N → ReaderState N
+  at_semicolon : Stack N → Trees N → Simple N → ReaderState N
+  at_equals : Stack N → Trees N → N → ReaderState N
+  at_right : Stack N → Trees N → N → ReaderState N
+  at_atom : AtomUse N → ReaderState N
+  at_magnitude : AtomUse N → ReaderState N
+  after_operand : Stack N → Trees N → N → RawAtom N → ReaderState N
+  at_store : Stack N → Trees N → N → ReaderState N
+  at_store_comma : Stack N → Trees N → N → Option (RawOrder N) → N → ReaderState N
+  at_load : Stack N → Trees N → N → ReaderState N
+  at_update_order : UpdateUse N → ReaderState N
+  at_update_comma : UpdateUse N → RawOrder N → N → ReaderState N
+  at_cas_comma : Stack N → Trees N → N → RawOrder N → N → RawAtom N → ReaderState N
+  at_arguments : Stack N → Trees N → N → N → ReaderState N
+  at_argument_list : Stack N → Trees N → N → N → ReaderState N
+  after_argument : Stack N → Trees N → N → N → Snoc (RawAtom N) → RawAtom N → ReaderState N
+  at_block : Frame N → ReaderState N
+  after_yes : Stack N → Trees N → N → RawAtom N → Trees N → ReaderState N
+  at_return_end : ReaderHead N → Trees N → RawAtom N → ReaderState N
+  at_function_close : ReaderHead N → Trees N → RawAtom N → ReaderState N
+  at_threads : Snoc (RawLocation N) → Snoc (Routine N) → Snoc (Thread N) → ReaderState N
+  at_thread_arguments : ThreadHead N → ReaderState N
+  at_literal_list : ThreadHead N → ReaderState N
+  after_literal : ThreadHead N → Snoc Literal → Literal → ReaderState N
+  at_thread_end : ThreadHead N → Snoc Literal → ReaderState N
 
 module _ {N : Type 0} where
   abbrev pub opening : Snoc (RawLocation N) → Snoc (Routine N) → N → Opening N
   opening ls fs n = record { locations = ls; functions = fs; name = n }
 
-  abbrev pub head : Opening N → Snoc N → Snoc N → Head N
+  abbrev pub head : Opening N → Snoc N → Snoc N → ReaderHead N
   head o ps rs = record { opening = o; parameters = ps; registers = rs }
 
   abbrev pub thread_head : Snoc (RawLocation N) → Snoc (Routine N) → Snoc (Thread N) → N → N → ThreadHead N
   thread_head ls fs ts w n = record { locations = ls; functions = fs; threads = ts; word = w; function = n }
 
-  abbrev pub finished : Head N → Trees N → RawAtom N → Routine N
+  abbrev pub finished : ReaderHead N → Trees N → RawAtom N → Routine N
   finished h xs a = record { name = h.opening.name; parameters = h.parameters; registers = h.registers; body = xs; result = a }
 
   abbrev pub finished_thread : ThreadHead N → Snoc Literal → Thread N
@@ -156,7 +156,7 @@ module _ {N : Type 0} where
     inner_depth (in_no k xs w a first) = suc (depth_of k)
     inner_depth (in_body k xs w a) = suc (depth_of k)
 
-  abbrev pub after_name : NameUse N → N → State N
+  abbrev pub after_name : NameUse N → N → ReaderState N
   after_name (of_location ls kind) n = at_location_equals ls kind n
   after_name (of_function ls fs) n = at_parameters (opening ls fs n)
   after_name (of_parameter o ps) n = after_parameter o ps n
@@ -167,11 +167,11 @@ module _ {N : Type 0} where
   after_name (called k xs r) n = at_arguments k xs r n
   after_name (of_thread ls fs ts w) n = at_thread_arguments (thread_head ls fs ts w n)
 
-  abbrev pub after_operand_of : UpdateUse N → RawOrder N → N → RawAtom N → State N
+  abbrev pub after_operand_of : UpdateUse N → RawOrder N → N → RawAtom N → ReaderState N
   after_operand_of (updating k xs r w) o y a = at_semicolon k xs (update r w o y a)
   after_operand_of (comparing k xs r) o y a = at_cas_comma k xs r o y a
 
-  abbrev pub after_atom : AtomUse N → RawAtom N → State N
+  abbrev pub after_atom : AtomUse N → RawAtom N → ReaderState N
   after_atom (printed k xs w) a = at_semicolon k xs (print w a)
   after_atom (chosen k xs w) a = at_block (in_yes k xs w a)
   after_atom (repeated k xs w) a = at_block (in_body k xs w a)
@@ -183,36 +183,36 @@ module _ {N : Type 0} where
   after_atom (returned h xs) a = at_return_end h xs a
   after_atom (assigned k xs r) a = after_operand k xs r a
 
-  abbrev pub after_literal_of : LiteralUse N → Literal → State N
+  abbrev pub after_literal_of : LiteralUse N → Literal → ReaderState N
   after_literal_of (of_location_value ls kind n) x = at_location_end ls (record { is_atomic = kind; name = n; value = x })
   after_literal_of (of_thread_argument h args) x = after_literal h args x
 
-  abbrev pub close_block : Frame N → Trees N → State N
+  abbrev pub close_block : Frame N → Trees N → ReaderState N
   close_block (in_yes k xs w a) first = after_yes k xs w a first
   close_block (in_no k xs w a first) second = ready k (add_tree xs (choice_else w a first second))
   close_block (in_body k xs w a) body = ready k (add_tree xs (repeat w a body))
 
-  abbrev pub close : Stack N → Trees N → Move Rule (State N)
+  abbrev pub close : Stack N → Trees N → Move Rule (ReaderState N)
   close (bottom h) xs = reject
   close (inner f) xs = shift None (close_block f xs)
 
-  abbrev pub leave : Stack N → Trees N → Move Rule (State N)
+  abbrev pub leave : Stack N → Trees N → Move Rule (ReaderState N)
   leave (bottom h) xs = shift None (at_atom (returned h xs))
   leave (inner f) xs = reject
 
   -- where an atom may come
-  abbrev pub from_atom : AtomUse N → Terminal N → Move Rule (State N)
+  abbrev pub from_atom : AtomUse N → Terminal N → Move Rule (ReaderState N)
   from_atom u (t.Operator Sub) = shift None (at_magnitude u)
   from_atom u (t.Name n) = shift None (after_atom u (Named n))
   from_atom u (t.Number n) = shift (past 9223372036854775807 n) (after_atom u (Constant (Positive n)))
   from_atom u _ = reject
 
-  abbrev pub from_literal : LiteralUse N → Terminal N → Move Rule (State N)
+  abbrev pub from_literal : LiteralUse N → Terminal N → Move Rule (ReaderState N)
   from_literal u (t.Operator Sub) = shift None (at_literal_magnitude u)
   from_literal u (t.Number n) = shift (past 9223372036854775807 n) (after_literal_of u (Positive n))
   from_literal u _ = reject
 
-  abbrev pub from_ready : Stack N → Trees N → Terminal N → Move Rule (State N)
+  abbrev pub from_ready : Stack N → Trees N → Terminal N → Move Rule (ReaderState N)
   from_ready k xs (t.Skip w) = shift None (at_semicolon k xs (skip w))
   from_ready k xs (t.Store w) = shift None (at_store k xs w)
   from_ready k xs (t.Print w) = shift None (at_atom (printed k xs w))
@@ -223,15 +223,15 @@ module _ {N : Type 0} where
   from_ready k xs t.Return = leave k xs
   from_ready k xs _ = reject
 
-  abbrev pub from_threads : Snoc (RawLocation N) → Snoc (Routine N) → Snoc (Thread N) → Terminal N → Move Rule (State N)
+  abbrev pub from_threads : Snoc (RawLocation N) → Snoc (Routine N) → Snoc (Thread N) → Terminal N → Move Rule (ReaderState N)
   from_threads ls fs ts (t.Thread w) = shift None (at_name (of_thread ls fs ts w))
   from_threads ls fs ts _ = reject
 
-  abbrev pub from_functions : Snoc (RawLocation N) → Snoc (Routine N) → Terminal N → Move Rule (State N)
+  abbrev pub from_functions : Snoc (RawLocation N) → Snoc (Routine N) → Terminal N → Move Rule (ReaderState N)
   from_functions ls fs t.Fn = shift None (at_name (of_function ls fs))
   from_functions ls fs other = from_threads ls fs empty other
 
-  abbrev pub step : State N → Terminal N → Move Rule (State N)
+  abbrev pub step : ReaderState N → Terminal N → Move Rule (ReaderState N)
   step begin t.Il = shift None at_version
   step begin _ = reject
   step at_version t.Version = shift None (at_locations empty)
@@ -268,6 +268,7 @@ module _ {N : Type 0} where
   step (at_semicolon k xs x) t.Semicolon = shift None (ready k (add_tree xs (simply x)))
   step (at_semicolon k xs x) _ = reject
   step (at_equals k xs r) t.Equals = shift None (at_right k xs r)
+  step (at_equals k xs r) (t.FenceOrder o v) = shift None (at_semicolon k xs (fence r (record { order = o; word = v })))
   step (at_equals k xs r) _ = reject
   step (at_right k xs r) t.Load = shift None (at_load k xs r)
   step (at_right k xs r) t.Add = shift None (at_update_order (updating k xs r Adding))
@@ -322,12 +323,12 @@ module _ {N : Type 0} where
   step (at_thread_end h args) _ = reject
 
   -- the tree, where a text may end
-  abbrev pub finish : State N → Option (TextTree N)
+  abbrev pub finish : ReaderState N → Option (TextTree N)
   finish (at_locations ls) = Some (text_tree ls empty empty)
   finish (at_functions ls fs) = Some (text_tree ls fs empty)
   finish (at_threads ls fs ts) = Some (text_tree ls fs ts)
   finish _ = None
 
   -- the answer from a state on: the tree, or the first fault
-  abbrev pub answer : State N → List (Terminal N) → Result (TextTree N) (Fault Rule)
+  abbrev pub answer : ReaderState N → List (Terminal N) → Result (TextTree N) (Fault Rule)
   answer = read_from step finish P3

@@ -8,8 +8,8 @@ ghost use Rattle.il_grammar.specs.declared.syntax.RawAtom.{RawAtom};
 ghost use Rattle.il_grammar.specs.declared.syntax.RawOrder.{RawOrder};
 ghost use Rattle.il_grammar.specs.declared.syntax.RawLocation.{RawLocation};
 ghost use Rattle.il_grammar.specs.Grammar.{Snoc, empty, append, Simple, simply, Routine, Thread, TextTree, Trees, no_tree, add_tree, choice};
-ghost use Rattle.il_grammar.specs.Machine.{Opening, head, Head, ThreadHead, Stack, bottom, inner, Frame, in_no, inner_depth, UpdateUse, NameUse, of_parameter, of_register, updated, of_thread, of_location, of_function, AtomUse, argument_of, assigned, value_of, operand_of, new_of, returned, LiteralUse, of_location_value, of_thread_argument, begin, at_version, at_locations, at_name, at_location_equals, at_literal, at_literal_magnitude, at_location_end, at_functions, at_parameters, at_parameter_list, after_parameter, at_body, at_registers, after_register, ready, at_semicolon, at_equals, at_right, at_atom, at_magnitude, at_store, at_store_comma, at_load, at_update_order, at_update_comma, at_cas_comma, at_arguments, at_argument_list, after_argument, at_block, after_yes, at_return_end, at_function_close, at_threads, at_thread_arguments, at_literal_list, after_literal, at_thread_end, finished, finished_thread, text_tree, after_name, after_atom, after_literal_of, close_block, answer};
-ghost use Rattle.il_grammar.specs.Reading.{begins_statement, end_of, parameter_or_body, register_or_statement, argument_or_end, literal_or_end, after_right_word};
+ghost use Rattle.il_grammar.specs.Machine.{Opening, head, ReaderHead, ThreadHead, Stack, bottom, inner, Frame, in_no, inner_depth, UpdateUse, NameUse, of_parameter, of_register, updated, of_thread, of_location, of_function, AtomUse, argument_of, assigned, value_of, operand_of, new_of, returned, LiteralUse, of_location_value, of_thread_argument, begin, at_version, at_locations, at_name, at_location_equals, at_literal, at_literal_magnitude, at_location_end, at_functions, at_parameters, at_parameter_list, after_parameter, at_body, at_registers, after_register, ready, at_semicolon, at_equals, at_right, at_atom, at_magnitude, at_store, at_store_comma, at_load, at_update_order, at_update_comma, at_cas_comma, at_arguments, at_argument_list, after_argument, at_block, after_yes, at_return_end, at_function_close, at_threads, at_thread_arguments, at_literal_list, after_literal, at_thread_end, finished, finished_thread, text_tree, after_name, after_atom, after_literal_of, close_block, answer};
+ghost use Rattle.il_grammar.specs.Reading.{begins_statement, text_end_of, parameter_or_body, register_or_statement, argument_or_end, literal_or_end, after_right_word, after_behind};
 
 use crate::rule::Rule;
 use crate::syntax::{Literal, RawAtom, RawOrder, Span};
@@ -31,6 +31,14 @@ pub enum RightWord {
     Swap,
     Cas,
     Call,
+}
+
+/// What stands behind the name that a statement begins with.
+#[derive(Clone, Copy, Debug, PartialEq, Eq)]
+pub enum BehindName {
+    Equals,
+    /// The order of a fence, of which the name is the word.
+    Order(RawOrder<Span>),
 }
 
 /// The header.
@@ -156,7 +164,7 @@ pub fn order(
 pub fn semicolon(tokens: &[Terminal<Span>]) -> Result<&[Terminal<Span>], ReadError<Rule>>
     ensures location { (ls : Snoc (RawLocation Span)) (l : RawLocation Span) → Continues result (answer (at_location_end ls l) tokens.now) (λ rest. answer (at_locations (append ls l)) rest.now) }
     ensures statement { (k : Stack Span) (xs : Trees Span) (x : Simple Span) → Continues result (answer (at_semicolon k xs x) tokens.now) (λ rest. answer (ready k (add_tree xs (simply x))) rest.now) }
-    ensures returned { (h : Head Span) (xs : Trees Span) (a : RawAtom Span) → Continues result (answer (at_return_end h xs a) tokens.now) (λ rest. answer (at_function_close h xs a) rest.now) }
+    ensures returned { (h : ReaderHead Span) (xs : Trees Span) (a : RawAtom Span) → Continues result (answer (at_return_end h xs a) tokens.now) (λ rest. answer (at_function_close h xs a) rest.now) }
     ensures thread { (h : ThreadHead Span) (args : Snoc Literal) → Continues result (answer (at_thread_end h args) tokens.now) (λ rest. answer (at_threads h.locations h.functions (append h.threads (finished_thread h args))) rest.now) }
     ensures shorter { IfOk result (λ rest. length rest.now < length tokens.now) }
 {
@@ -166,14 +174,33 @@ pub fn semicolon(tokens: &[Terminal<Span>]) -> Result<&[Terminal<Span>], ReadErr
     }
 }
 
-/// Between a location or a register and its value.
+/// Between a location and its value.
 pub fn equals(tokens: &[Terminal<Span>]) -> Result<&[Terminal<Span>], ReadError<Rule>>
-    ensures location { (ls : Snoc (RawLocation Span)) (kind : Bool) (n : Span) → Continues result (answer (at_location_equals ls kind n) tokens.now) (λ rest. answer (at_literal (of_location_value ls kind n)) rest.now) }
-    ensures statement { (k : Stack Span) (xs : Trees Span) (r : Span) → Continues result (answer (at_equals k xs r) tokens.now) (λ rest. answer (at_right k xs r) rest.now) }
+    ensures exact { (ls : Snoc (RawLocation Span)) (kind : Bool) (n : Span) → Continues result (answer (at_location_equals ls kind n) tokens.now) (λ rest. answer (at_literal (of_location_value ls kind n)) rest.now) }
     ensures shorter { IfOk result (λ rest. length rest.now < length tokens.now) }
 {
     match tokens {
         [Terminal::Equals, rest @ ..] => Ok(rest),
+        _ => Err(fault_at(Rule::P3, tokens)),
+    }
+}
+
+/// What stands behind the name that a statement begins with: `=`, or the order of a fence.
+pub fn behind_name(
+    tokens: &[Terminal<Span>],
+) -> Result<(BehindName, &[Terminal<Span>]), ReadError<Rule>>
+    ensures exact { (k : Stack Span) (xs : Trees Span) (r : Span) → Continues result (answer (at_equals k xs r) tokens.now) (λ x. answer (after_behind x.0 k xs r) x.1.now) }
+    ensures shorter { IfOk result (λ x. length x.1.now < length tokens.now) }
+{
+    match tokens {
+        [Terminal::Equals, rest @ ..] => Ok((BehindName::Equals, rest)),
+        [Terminal::FenceOrder(order, word), rest @ ..] => Ok((
+            BehindName::Order(RawOrder {
+                order: *order,
+                word: *word,
+            }),
+            rest,
+        )),
         _ => Err(fault_at(Rule::P3, tokens)),
     }
 }
@@ -283,7 +310,7 @@ pub fn body_open(tokens: &[Terminal<Span>]) -> Result<&[Terminal<Span>], ReadErr
 
 /// The brace that closes it.
 pub fn body_close(tokens: &[Terminal<Span>]) -> Result<&[Terminal<Span>], ReadError<Rule>>
-    ensures exact { (h : Head Span) (xs : Trees Span) (a : RawAtom Span) → Continues result (answer (at_function_close h xs a) tokens.now) (λ rest. answer (at_functions h.opening.locations (append h.opening.functions (finished h xs a))) rest.now) }
+    ensures exact { (h : ReaderHead Span) (xs : Trees Span) (a : RawAtom Span) → Continues result (answer (at_function_close h xs a) tokens.now) (λ rest. answer (at_functions h.opening.locations (append h.opening.functions (finished h xs a))) rest.now) }
     ensures shorter { IfOk result (λ rest. length rest.now < length tokens.now) }
 {
     match tokens {
@@ -295,7 +322,7 @@ pub fn body_close(tokens: &[Terminal<Span>]) -> Result<&[Terminal<Span>], ReadEr
 /// The `return` of a body, after its statements.
 pub fn body_return(tokens: &[Terminal<Span>]) -> Result<&[Terminal<Span>], ReadError<Rule>>
     requires { begins_statement tokens.now ≡ false }
-    ensures exact { (h : Head Span) (xs : Trees Span) → Continues result (answer (ready (bottom h) xs) tokens.now) (λ rest. answer (at_atom (returned h xs)) rest.now) }
+    ensures exact { (h : ReaderHead Span) (xs : Trees Span) → Continues result (answer (ready (bottom h) xs) tokens.now) (λ rest. answer (at_atom (returned h xs)) rest.now) }
     ensures shorter { IfOk result (λ rest. length rest.now < length tokens.now) }
 {
     let Some((token, rest)) = next(tokens) else {
@@ -394,7 +421,7 @@ pub fn after_reg(tokens: &[Terminal<Span>]) -> Option<&[Terminal<Span>]>
 /// The word `thread` and what follows it, where one comes.
 pub fn after_thread(tokens: &[Terminal<Span>]) -> Option<(Span, &[Terminal<Span>])>
     ensures exact { (ls : Snoc (RawLocation Span)) (fs : Snoc (Routine Span)) (ts : Snoc (Thread Span)) → MatchOption result
-        (answer (at_threads ls fs ts) tokens.now ≡ end_of (text_tree ls fs ts) tokens.now)
+        (answer (at_threads ls fs ts) tokens.now ≡ text_end_of (text_tree ls fs ts) tokens.now)
         (λ x. answer (at_threads ls fs ts) tokens.now ≡ answer (at_name (of_thread ls fs ts x.0)) x.1.now) }
     ensures shorter { IfSome result (λ x. length x.1.now < length tokens.now) }
 {
@@ -406,7 +433,7 @@ pub fn after_thread(tokens: &[Terminal<Span>]) -> Option<(Span, &[Terminal<Span>
 
 /// Nothing follows a text.
 pub fn end(tokens: &[Terminal<Span>]) -> Result<(), ReadError<Rule>>
-    ensures { (p : TextTree Span) → Continues result (end_of p tokens.now) (λ _. Ok p) }
+    ensures { (p : TextTree Span) → Continues result (text_end_of p tokens.now) (λ _. Ok p) }
 {
     match next(tokens) {
         None => Ok(()),

@@ -1,7 +1,8 @@
-pub mod Split
-pub mod Longest
-pub mod Places
-pub mod LayoutLemmas
-pub mod Unique
-pub mod Total
-pub mod SlicesLemmas
+mod Split
+mod Longest
+mod Places
+mod LayoutLemmas
+mod Unique
+mod Total
+mod SlicesLemmas
+pub mod Callers

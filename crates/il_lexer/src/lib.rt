@@ -5,6 +5,9 @@
 //! `#` up to the next byte 10, or to the end. A word is a letter or `_` followed by letters, digits
 //! and `_`. A number is one or more digits. The symbols are
 //! `( ) { } , ; = + - * / % & | ^ == != < <=`.
+//!
+//! Read first `specs/Lexeme.antt`, with what a token is spelled with, then `specs/Text.antt`, with the
+//! tokens of a text and what lies between them.
 #![tactic(auto)]
 
 mod fault;
@@ -22,6 +25,3 @@ pub use laws::{
 pub use place::{column, line};
 pub use scanner::{Lexed, foreign_byte, lex, scan};
 pub use token::{Token, TokenKind, Tokens};
-
-#[cfg(test)]
-mod tests;

@@ -11,8 +11,9 @@ use Rattle.il_grammar.specs.declared.syntax.RawAtom.{RawAtom}
 use Rattle.il_grammar.specs.declared.syntax.RawAtom.TheVariants.{Constant, Named}
 use Rattle.il_grammar.specs.declared.syntax.RawOrder.{RawOrder}
 use Rattle.il_grammar.specs.declared.syntax.RawLocation.{RawLocation}
+use Rattle.values_undef.specs.Access.{is_fence_order}
 use Rattle.il_grammar.specs.Name.{name_text}
-use Rattle.il_grammar.specs.Grammar.{Snoc, empty, append, Simple, skip, store, print, copy, compute, load, update, cas, call, Tree, simply, choice, choice_else, repeat, Trees, no_tree, add_tree, Routine, Thread, TextTree}
+use Rattle.il_grammar.specs.Grammar.{Snoc, empty, append, Simple, skip, store, fence, print, copy, compute, load, update, cas, call, Tree, simply, choice, choice_else, repeat, Trees, no_tree, add_tree, Routine, Thread, TextTree}
 use Rattle.il_names.specs.declared.fault.NameFault.{NameFault}
 use Rattle.il_names.specs.Known.{Known, number_of, added, texts_after, na_names, atomic_names, function_names, parameter_counts, registers_of, snoc_length}
 
@@ -25,8 +26,8 @@ unless false rule at = record { rule = rule; place = at } ∷ []
 abbrev mutual
   pub count : Tree Span → ℕ
   count (simply x) = 1
-  count (choice w a first) = 1 + count_all first
-  count (choice_else w a first second) = 1 + (count_all first + count_all second)
+  count (choice w a first_by_place) = 1 + count_all first_by_place
+  count (choice_else w a first_by_place second) = 1 + (count_all first_by_place + count_all second)
   count (repeat w a body) = 1 + count_all body
 
   pub count_all : Trees Span → ℕ
@@ -45,6 +46,10 @@ load_order_faults (Some o) = unless (is_load_order o.order) C5 o.word.start
 abbrev pub store_order_faults : Option (RawOrder Span) → List NameFault
 store_order_faults None = []
 store_order_faults (Some o) = unless (is_store_order o.order) C5 o.word.start
+
+-- C5: a fence acquires or releases
+abbrev pub fence_order_faults : RawOrder Span → List NameFault
+fence_order_faults o = unless (is_fence_order o.order) C5 o.word.start
 
 module _ (bytes : List ℕ) (known : Known) where
   -- C1: a register
@@ -69,7 +74,7 @@ module _ (bytes : List ℕ) (known : Known) where
   location_faults None x = na_faults x
   location_faults (Some o) y = atomic_faults y
 
-  -- C1, C6: a function with so many arguments, of functions with one name the first
+  -- C1, C6: a function with so many arguments, of functions with one name the first_by_place
   abbrev pub arity_faults : Span → ℕ → Option ℕ → List NameFault
   arity_faults g arguments None = unless false C1 g.start
   arity_faults g arguments (Some number) = unless (option_map_or (λ n. arguments == n) (slice_get known.parameter_counts number) false) C6 g.start
@@ -85,6 +90,7 @@ module _ (bytes : List ℕ) (known : Known) where
   abbrev pub simple_faults : Simple Span → ℕ → List NameFault
   simple_faults (skip w) before = too_many_statements before w.start
   simple_faults (store w o x a) before = too_many_statements before w.start ++ (store_order_faults o ++ (location_faults o x ++ atom_faults a))
+  simple_faults (fence w o) before = too_many_statements before w.start ++ fence_order_faults o
   simple_faults (print w a) before = too_many_statements before w.start ++ atom_faults a
   simple_faults (copy r a) before = register_faults r ++ (too_many_statements before r.start ++ atom_faults a)
   simple_faults (compute r a op b) before = register_faults r ++ (too_many_statements before r.start ++ (atom_faults a ++ atom_faults b))
@@ -97,9 +103,9 @@ module _ (bytes : List ℕ) (known : Known) where
   abbrev mutual
     pub tree_faults : Tree Span → ℕ → List NameFault
     tree_faults (simply x) before = simple_faults x before
-    tree_faults (choice w a first) before = too_many_statements before w.start ++ (atom_faults a ++ trees_faults first (before + 1))
-    tree_faults (choice_else w a first second) before =
-        too_many_statements before w.start ++ (atom_faults a ++ (trees_faults first (before + 1) ++ trees_faults second (before + 1 + count_all first)))
+    tree_faults (choice w a first_by_place) before = too_many_statements before w.start ++ (atom_faults a ++ trees_faults first_by_place (before + 1))
+    tree_faults (choice_else w a first_by_place second) before =
+        too_many_statements before w.start ++ (atom_faults a ++ (trees_faults first_by_place (before + 1) ++ trees_faults second (before + 1 + count_all first_by_place)))
     tree_faults (repeat w a body) before = too_many_statements before w.start ++ (atom_faults a ++ trees_faults body (before + 1))
 
     pub trees_faults : Trees Span → ℕ → List NameFault
@@ -108,7 +114,7 @@ module _ (bytes : List ℕ) (known : Known) where
 
   -- of an `if` with an `else`, up to the `else`
   abbrev pub half_faults : Span → RawAtom Span → Trees Span → ℕ → List NameFault
-  half_faults w a first before = too_many_statements before w.start ++ (atom_faults a ++ trees_faults first (before + 1))
+  half_faults w a first_by_place before = too_many_statements before w.start ++ (atom_faults a ++ trees_faults first_by_place (before + 1))
 
 -- Declarations.
 
@@ -206,7 +212,7 @@ module _ (bytes : List ℕ) where
       ++ (functions_faults p.locations p.functions p.functions
       ++ (threads_faults (known_in p.locations p.functions []) p.threads ++ missing_thread p.threads))
 
--- the first fault, if there is one
-abbrev pub first : List NameFault → Option NameFault
-first [] = None
-first (f ∷ fs) = Some f
+-- the first_by_place fault, if there is one
+abbrev pub first_by_place : List NameFault → Option NameFault
+first_by_place [] = None
+first_by_place (f ∷ fs) = Some f

@@ -2,8 +2,8 @@
 
 ghost use Rattle.std.specs.Prelude.{◌≡◌, ◌<◌, ◌^◌, length, IfOk};
 ghost use Rattle.il_grammar.specs.Name.{name_text};
-ghost use Rattle.il_names.specs.Known.{IsSmall};
-ghost use Rattle.il_names.specs.Faults.{register_faults, atom_faults, na_faults, atomic_faults, function_faults, load_order_faults, store_order_faults, too_many_statements};
+ghost use Rattle.il_names.specs.Known.{HasSmallNumbers};
+ghost use Rattle.il_names.specs.Faults.{register_faults, atom_faults, na_faults, atomic_faults, function_faults, load_order_faults, store_order_faults, fence_order_faults, too_many_statements};
 ghost use Rattle.il_names.specs.Meaning.{number, literal_value, atom_meaning};
 ghost use Rattle.il_names.specs.Names.{known_of};
 ghost use Rattle.il_names.specs.Resolving.{Resolves};
@@ -52,7 +52,7 @@ pub fn fault(rule: Rule, place: u32) -> ResolveError
 
 /// The number of a register.
 pub fn register(names: &Names, name: Span) -> Result<u32, ResolveError>
-    requires { IsSmall (known_of names.now) }
+    requires { HasSmallNumbers (known_of names.now) }
     ensures { Resolves result (register_faults names.now.bytes.now (known_of names.now) name) (number names.now.bytes.now (known_of names.now) (known_of names.now).registers name) }
 {
     match names.registers.number(text(names.bytes, name)) {
@@ -63,7 +63,7 @@ pub fn register(names: &Names, name: Span) -> Result<u32, ResolveError>
 
 /// The number of a location without an order.
 pub fn na_location(names: &Names, name: Span) -> Result<u32, ResolveError>
-    requires { IsSmall (known_of names.now) }
+    requires { HasSmallNumbers (known_of names.now) }
     ensures { Resolves result (na_faults names.now.bytes.now (known_of names.now) name) (number names.now.bytes.now (known_of names.now) (known_of names.now).na name) }
 {
     let name_bytes = text(names.bytes, name);
@@ -78,7 +78,7 @@ pub fn na_location(names: &Names, name: Span) -> Result<u32, ResolveError>
 
 /// The number of a location with an order.
 pub fn atomic_location(names: &Names, name: Span) -> Result<u32, ResolveError>
-    requires { IsSmall (known_of names.now) }
+    requires { HasSmallNumbers (known_of names.now) }
     ensures { Resolves result (atomic_faults names.now.bytes.now (known_of names.now) name) (number names.now.bytes.now (known_of names.now) (known_of names.now).atomic name) }
 {
     let name_bytes = text(names.bytes, name);
@@ -93,7 +93,7 @@ pub fn atomic_location(names: &Names, name: Span) -> Result<u32, ResolveError>
 
 /// The number of a function that is called with so many arguments.
 pub fn function(names: &Names, name: Span, arguments: usize) -> Result<u32, ResolveError>
-    requires { IsSmall (known_of names.now) }
+    requires { HasSmallNumbers (known_of names.now) }
     ensures { Resolves result (function_faults names.now.bytes.now (known_of names.now) name arguments) (number names.now.bytes.now (known_of names.now) (known_of names.now).functions name) }
 {
     let Some(number) = names.functions.number(text(names.bytes, name)) else {
@@ -119,7 +119,7 @@ pub fn literal_value(literal: Literal) -> i64
 
 /// A constant, or the number of a register.
 pub fn atom(names: &Names, atom: RawAtom<Span>) -> Result<Atom, ResolveError>
-    requires { IsSmall (known_of names.now) }
+    requires { HasSmallNumbers (known_of names.now) }
     ensures { Resolves result (atom_faults names.now.bytes.now (known_of names.now) atom) (atom_meaning names.now.bytes.now (known_of names.now) atom) }
 {
     match atom {
@@ -153,6 +153,17 @@ pub fn load_order(order: Option<RawOrder<Span>>) -> Result<(), ResolveError>
     match order {
         Order::Rlx | Order::Acq => Ok(()),
         Order::Rel | Order::AcqRel => Err(fault(Rule::C5, word.start)),
+    }
+}
+
+/// The order of a fence.
+pub fn fence_order(order: RawOrder<Span>) -> Result<(), ResolveError>
+    ensures { Resolves {X = Unit {0}} result (fence_order_faults order) tt }
+{
+    if order.order.is_fence_order() {
+        Ok(())
+    } else {
+        Err(fault(Rule::C5, order.word.start))
     }
 }
 

@@ -3,9 +3,9 @@
 ghost use Rattle.std.specs.Prelude.{◌≡◌, ◌+◌, ◌<◌, ◌≤◌, ◌^◌, ℕ, List, length, true, IfOk, Some};
 ghost use Rattle.il_syntax.specs.declared.statement.Atom.{Atom};
 ghost use Rattle.il_syntax.specs.declared.statement.Stmt.{Stmt};
-ghost use Rattle.il_grammar.specs.Grammar.{skip, store, print, copy, compute, load, update, cas, call, simply, choice, repeat};
+ghost use Rattle.il_grammar.specs.Grammar.{skip, store, fence, print, copy, compute, load, update, cas, call, simply, choice, repeat};
 ghost use Rattle.il_grammar.specs.Reading.{snoc, simple_of, tree, trees};
-ghost use Rattle.il_names.specs.Known.{Known, IsSmall, snoc_length};
+ghost use Rattle.il_names.specs.Known.{Known, HasSmallNumbers, snoc_length};
 ghost use Rattle.il_names.specs.Faults.{half_faults, function_faults, simple_faults, atoms_faults, tree_faults, trees_faults, count, count_all};
 ghost use Rattle.il_names.specs.Meaning.{is_update, choice_meaning, number, simple_meaning, atom_meaning, atoms_meaning, tree_meaning, trees_meaning};
 ghost use Rattle.il_names.specs.Names.{known_of};
@@ -13,7 +13,8 @@ ghost use Rattle.il_names.specs.Resolving.{Resolves, Walks};
 
 use crate::fault::ResolveError;
 use crate::names::{
-    Names, atom, atomic_location, function, load_order, na_location, register, room, store_order,
+    Names, atom, atomic_location, fence_order, function, load_order, na_location, register, room,
+    store_order,
 };
 use il_grammar::{RawAtom, RawOrder, RawSimple, RawStatement, RawUpdate, Span};
 use il_syntax::{Atom, Atoms, Block, Rmw, Stmt};
@@ -37,7 +38,7 @@ fn stored(
     location: Span,
     value: RawAtom<Span>,
 ) -> Result<Stmt, ResolveError>
-    requires { IsSmall (known_of names.now) }
+    requires { HasSmallNumbers (known_of names.now) }
     ensures exact { Resolves result (simple_faults names.now.bytes.now (known_of names.now) (store word order location value) before) (simple_meaning names.now.bytes.now (known_of names.now) (store word order location value)) }
     ensures within { IfOk result (λ _. before < 4096) }
 {
@@ -57,13 +58,22 @@ fn stored(
     }
 }
 
+fn fenced(before: u32, word: Span, order: RawOrder<Span>) -> Result<Stmt, ResolveError>
+    ensures exact { (bytes : List ℕ) (known : Known) → Resolves result (simple_faults bytes known (fence word order) before) (simple_meaning bytes known (fence word order)) }
+    ensures within { IfOk result (λ _. before < 4096) }
+{
+    room(before, word.start)?;
+    fence_order(order)?;
+    Ok(Stmt::Fence { order: order.order })
+}
+
 fn printed(
     names: &Names,
     before: u32,
     word: Span,
     value: RawAtom<Span>,
 ) -> Result<Stmt, ResolveError>
-    requires { IsSmall (known_of names.now) }
+    requires { HasSmallNumbers (known_of names.now) }
     ensures exact { Resolves result (simple_faults names.now.bytes.now (known_of names.now) (print word value) before) (simple_meaning names.now.bytes.now (known_of names.now) (print word value)) }
     ensures within { IfOk result (λ _. before < 4096) }
 {
@@ -78,7 +88,7 @@ fn copied(
     target: Span,
     value: RawAtom<Span>,
 ) -> Result<Stmt, ResolveError>
-    requires { IsSmall (known_of names.now) }
+    requires { HasSmallNumbers (known_of names.now) }
     ensures exact { Resolves result (simple_faults names.now.bytes.now (known_of names.now) (copy target value) before) (simple_meaning names.now.bytes.now (known_of names.now) (copy target value)) }
     ensures within { IfOk result (λ _. before < 4096) }
 {
@@ -96,7 +106,7 @@ fn computed(
     op: Op,
     second: RawAtom<Span>,
 ) -> Result<Stmt, ResolveError>
-    requires { IsSmall (known_of names.now) }
+    requires { HasSmallNumbers (known_of names.now) }
     ensures exact { Resolves result (simple_faults names.now.bytes.now (known_of names.now) (compute target first op second) before) (simple_meaning names.now.bytes.now (known_of names.now) (compute target first op second)) }
     ensures within { IfOk result (λ _. before < 4096) }
 {
@@ -114,7 +124,7 @@ fn loaded(
     order: Option<RawOrder<Span>>,
     location: Span,
 ) -> Result<Stmt, ResolveError>
-    requires { IsSmall (known_of names.now) }
+    requires { HasSmallNumbers (known_of names.now) }
     ensures exact { Resolves result (simple_faults names.now.bytes.now (known_of names.now) (load target order location) before) (simple_meaning names.now.bytes.now (known_of names.now) (load target order location)) }
     ensures within { IfOk result (λ _. before < 4096) }
 {
@@ -142,7 +152,7 @@ fn updated(
     location: Span,
     operand: RawAtom<Span>,
 ) -> Result<Stmt, ResolveError>
-    requires { IsSmall (known_of names.now) }
+    requires { HasSmallNumbers (known_of names.now) }
     ensures exact { Resolves result (simple_faults names.now.bytes.now (known_of names.now) (update target kind order location operand) before) (simple_meaning names.now.bytes.now (known_of names.now) (update target kind order location operand)) }
     ensures within { IfOk result (λ _. before < 4096) }
 {
@@ -171,7 +181,7 @@ fn compared(
     expected: RawAtom<Span>,
     new: RawAtom<Span>,
 ) -> Result<Stmt, ResolveError>
-    requires { IsSmall (known_of names.now) }
+    requires { HasSmallNumbers (known_of names.now) }
     ensures exact { Resolves result (simple_faults names.now.bytes.now (known_of names.now) (cas target order location expected new) before) (simple_meaning names.now.bytes.now (known_of names.now) (cas target order location expected new)) }
     ensures within { IfOk result (λ _. before < 4096) }
 {
@@ -190,7 +200,7 @@ fn compared(
 
 /// The arguments of a call.
 fn arguments(alloc: Global, names: &Names, written: &[RawAtom<Span>]) -> Result<Atoms, ResolveError>
-    requires { IsSmall (known_of names.now) }
+    requires { HasSmallNumbers (known_of names.now) }
     ensures { Resolves result (atoms_faults names.now.bytes.now (known_of names.now) (snoc written.now)) (atoms_meaning names.now.bytes.now (known_of names.now) (snoc written.now)) }
 {
     let mut atoms = Items::new(alloc);
@@ -203,7 +213,7 @@ fn arguments(alloc: Global, names: &Names, written: &[RawAtom<Span>]) -> Result<
 
 /// The function of a call with these arguments.
 fn callee(names: &Names, name: Span, written: &[RawAtom<Span>]) -> Result<u32, ResolveError>
-    requires { IsSmall (known_of names.now) }
+    requires { HasSmallNumbers (known_of names.now) }
     ensures { Resolves result (function_faults names.now.bytes.now (known_of names.now) name (snoc_length (snoc written.now))) (number names.now.bytes.now (known_of names.now) (known_of names.now).functions name) }
 {
     function(names, name, written.len())
@@ -217,7 +227,7 @@ fn called(
     name: Span,
     written: &[RawAtom<Span>],
 ) -> Result<Stmt, ResolveError>
-    requires { IsSmall (known_of names.now) }
+    requires { HasSmallNumbers (known_of names.now) }
     ensures exact { Resolves result (simple_faults names.now.bytes.now (known_of names.now) (call target name (snoc written.now)) before) (simple_meaning names.now.bytes.now (known_of names.now) (call target name (snoc written.now))) }
     ensures within { IfOk result (λ _. before < 4096) }
 {
@@ -230,7 +240,7 @@ fn called(
 
 /// An `add`, `swap` or `cas`.
 fn update(names: &Names, before: u32, written: &RawSimple) -> Result<Stmt, ResolveError>
-    requires small { IsSmall (known_of names.now) }
+    requires small { HasSmallNumbers (known_of names.now) }
     requires update { is_update (simple_of written.now) ≡ true }
     ensures exact { Resolves result (simple_faults names.now.bytes.now (known_of names.now) (simple_of written.now) before) (simple_meaning names.now.bytes.now (known_of names.now) (simple_of written.now)) }
     ensures within { IfOk result (λ _. before < 4096) }
@@ -261,7 +271,7 @@ fn simple(
     before: u32,
     written: &RawSimple,
 ) -> Result<Stmt, ResolveError>
-    requires { IsSmall (known_of names.now) }
+    requires { HasSmallNumbers (known_of names.now) }
     ensures exact { Resolves result (simple_faults names.now.bytes.now (known_of names.now) (simple_of written.now) before) (simple_meaning names.now.bytes.now (known_of names.now) (simple_of written.now)) }
     ensures within { IfOk result (λ _. before < 4096) }
 {
@@ -273,6 +283,7 @@ fn simple(
             location,
             value,
         } => stored(names, before, *word, *order, *location, *value),
+        RawSimple::Fence { word, order } => fenced(before, *word, *order),
         RawSimple::Print { word, value } => printed(names, before, *word, *value),
         RawSimple::Copy { register, value } => copied(names, before, *register, *value),
         RawSimple::Compute {
@@ -308,7 +319,7 @@ fn simply(
     before: u32,
     written: &RawSimple,
 ) -> Result<(Stmt, u32), ResolveError>
-    requires { IsSmall (known_of names.now) }
+    requires { HasSmallNumbers (known_of names.now) }
     ensures exact { Walks result (tree_faults names.now.bytes.now (known_of names.now) (simply (simple_of written.now)) before) (tree_meaning names.now.bytes.now (known_of names.now) (simply (simple_of written.now))) (before + 1) }
     ensures within { IfOk result (λ x. x.1 ≤ 4096) }
 {
@@ -326,7 +337,7 @@ fn choice(
     condition: RawAtom<Span>,
     first: &[RawStatement],
 ) -> Result<(Stmt, u32), ResolveError>
-    requires { IsSmall (known_of names.now) }
+    requires { HasSmallNumbers (known_of names.now) }
     ensures exact { Walks result (tree_faults names.now.bytes.now (known_of names.now) (choice word condition (trees first.now)) before) (tree_meaning names.now.bytes.now (known_of names.now) (choice word condition (trees first.now))) (before + count (choice word condition (trees first.now))) }
     ensures within { IfOk result (λ x. x.1 ≤ 4096) }
 {
@@ -350,7 +361,7 @@ fn first_half(
     condition: RawAtom<Span>,
     first: &[RawStatement],
 ) -> Result<((Atom, Items<Stmt>), u32), ResolveError>
-    requires { IsSmall (known_of names.now) }
+    requires { HasSmallNumbers (known_of names.now) }
     ensures exact { Walks {X = Atom × List Stmt} result (half_faults names.now.bytes.now (known_of names.now) word condition (trees first.now) before) (atom_meaning names.now.bytes.now (known_of names.now) condition, trees_meaning names.now.bytes.now (known_of names.now) (trees first.now)) (before + 1 + count_all (trees first.now)) }
     ensures within { IfOk result (λ x. x.1 ≤ 4096) }
 {
@@ -379,7 +390,7 @@ fn repeat(
     condition: RawAtom<Span>,
     body: &[RawStatement],
 ) -> Result<(Stmt, u32), ResolveError>
-    requires { IsSmall (known_of names.now) }
+    requires { HasSmallNumbers (known_of names.now) }
     ensures exact { Walks result (tree_faults names.now.bytes.now (known_of names.now) (repeat word condition (trees body.now)) before) (tree_meaning names.now.bytes.now (known_of names.now) (repeat word condition (trees body.now))) (before + count (repeat word condition (trees body.now))) }
     ensures within { IfOk result (λ x. x.1 ≤ 4096) }
 {
@@ -398,7 +409,7 @@ fn statement(
     before: u32,
     written: &RawStatement,
 ) -> Result<(Stmt, u32), ResolveError>
-    requires { IsSmall (known_of names.now) }
+    requires { HasSmallNumbers (known_of names.now) }
     ensures exact { Walks result (tree_faults names.now.bytes.now (known_of names.now) (tree written.now) before) (tree_meaning names.now.bytes.now (known_of names.now) (tree written.now)) (before + count (tree written.now)) }
     ensures within { IfOk result (λ x. x.1 ≤ 4096) }
 {
@@ -426,7 +437,7 @@ pub fn statements(
     before: u32,
     written: &[RawStatement],
 ) -> Result<(Items<Stmt>, u32), ResolveError>
-    requires small { IsSmall (known_of names.now) }
+    requires small { HasSmallNumbers (known_of names.now) }
     requires within { before ≤ 4096 }
     ensures exact { Walks result (trees_faults names.now.bytes.now (known_of names.now) (trees written.now) before) (trees_meaning names.now.bytes.now (known_of names.now) (trees written.now)) (before + count_all (trees written.now)) }
     ensures within { IfOk result (λ x. x.1 ≤ 4096) }

@@ -1,6 +1,9 @@
 -- The words of a text at which a check can be answered, in the order in which they stand.
 use Rattle.std.proofs.Common.{◌≡◌, ℕ, ◌<◌, ◌≤◌, List, [], ◌∷◌, ◌++◌, map, length, Bool, true, false, cond, codes, Option, Some, None, refl, subst, sym, arith}
 use Rattle.std.specs.Str.{bytes_eq}
+use Rattle.std.specs.Prelude.{◌&&◌}
+use Rattle.std.proofs.lemmas.Bool.{cond_both}
+use Rattle.values_undef.specs.Access.{is_fence_order}
 use Rattle.token_machine.specs.Text.{tokens_of}
 use Rattle.values_undef.specs.declared.access.Order.TheVariants.{Rlx, Acq, Rel, AcqRel}
 use Rattle.values_undef.specs.declared.arithmetic.Op.TheVariants as ops
@@ -9,26 +12,14 @@ use Rattle.il_lexer.specs.declared.token.TokenKind.{TokenKind}
 use Rattle.il_lexer.specs.declared.token.TokenKind.TheVariants as kinds
 use Rattle.il_lexer.specs.Text.{Rest, at_end, stopped_at}
 use Rattle.il_lexer.specs.Slices.{AreTokensOf, end_of}
-use Rattle.il_lexer.proofs.SlicesLemmas.{slices}
+use Rattle.il_lexer.proofs.Callers.{slices}
 use Rattle.il_grammar.specs.declared.syntax.Span.{Span}
 use Rattle.il_grammar.specs.declared.terminal.Terminal.{Terminal}
 use Rattle.il_grammar.specs.declared.terminal.Terminal.TheVariants as t
 use Rattle.il_grammar.specs.Grammar.{Marks, TextTree, spelling}
-use Rattle.il_reader.specs.Terminals.{word_of, symbol_of, of_kind, terminal_of, unknown_terminal, after_header, text_of}
+use Rattle.il_reader.specs.Terminals.{word_of, symbol_terminal, of_kind, terminal_of, unknown_terminal, after_header, text_of, has_fences, as_fence_order, is_name_with, with_fences, is_fence_word}
 use Rattle.il_reader.specs.Text.{Writes}
-use Rattle.il_reader.proofs.Named.{lexed_whole}
-
--- the place that a terminal has with it
-abbrev pub span_of : Terminal Span → Option Span
-span_of (t.Thread w) = Some w
-span_of (t.Skip w) = Some w
-span_of (t.Store w) = Some w
-span_of (t.OrderWord o w) = Some w
-span_of (t.Print w) = Some w
-span_of (t.If w) = Some w
-span_of (t.While w) = Some w
-span_of (t.Name n) = Some n
-span_of _ = None
+use Rattle.il_reader.proofs.Callers.{lexed_whole, span_of, HasPlace, no_place, own_place, place_of_kind}
 
 -- a place comes after another, and has room for a byte
 abbrev pub Comes : ℕ → Option Span → Type 0
@@ -47,73 +38,6 @@ AreRising high low (x ∷ xs) = Comes low (span_of x) × AreRising high (past lo
 abbrev pub Rising : ℕ → ℕ → Marks Span → Type 0
 Rising high low marks = AreRising high low (tokens_of marks)
 
--- A token's terminal has the token's place with it, or none.
-
-pub data HasPlace (s : Span) (x : Terminal Span) : Type 0 where
-  no_place : span_of x ≡ None → HasPlace s x
-  own_place : span_of x ≡ Some s → HasPlace s x
-
-either : (s : Span) (b : Bool) (x y : Terminal Span) → HasPlace s x → HasPlace s y → HasPlace s (cond b x y)
-either s true x y p q = p
-either s false x y p q = q
-
-neither : (b : Bool) (x y : Terminal Span) → span_of x ≡ None → span_of y ≡ None → span_of (cond b x y) ≡ None
-neither true x y p q = p
-neither false x y p q = q
-
-pub word_place : (text : List ℕ) (s : Span) → HasPlace s (word_of text s)
-word_place text s =
-    either s (bytes_eq text (codes "il")) t.Il _ (no_place refl)
-    (either s (bytes_eq text (codes "na")) t.Na _ (no_place refl)
-    (either s (bytes_eq text (codes "atomic")) t.Atomic _ (no_place refl)
-    (either s (bytes_eq text (codes "fn")) t.Fn _ (no_place refl)
-    (either s (bytes_eq text (codes "reg")) t.Reg _ (no_place refl)
-    (either s (bytes_eq text (codes "return")) t.Return _ (no_place refl)
-    (either s (bytes_eq text (codes "thread")) (t.Thread s) _ (own_place refl)
-    (either s (bytes_eq text (codes "skip")) (t.Skip s) _ (own_place refl)
-    (either s (bytes_eq text (codes "load")) t.Load _ (no_place refl)
-    (either s (bytes_eq text (codes "store")) (t.Store s) _ (own_place refl)
-    (either s (bytes_eq text (codes "rlx")) (t.OrderWord Rlx s) _ (own_place refl)
-    (either s (bytes_eq text (codes "acq")) (t.OrderWord Acq s) _ (own_place refl)
-    (either s (bytes_eq text (codes "rel")) (t.OrderWord Rel s) _ (own_place refl)
-    (either s (bytes_eq text (codes "acqrel")) (t.OrderWord AcqRel s) _ (own_place refl)
-    (either s (bytes_eq text (codes "add")) t.Add _ (no_place refl)
-    (either s (bytes_eq text (codes "swap")) t.Swap _ (no_place refl)
-    (either s (bytes_eq text (codes "cas")) t.Cas _ (no_place refl)
-    (either s (bytes_eq text (codes "print")) (t.Print s) _ (own_place refl)
-    (either s (bytes_eq text (codes "if")) (t.If s) _ (own_place refl)
-    (either s (bytes_eq text (codes "else")) t.Else _ (no_place refl)
-    (either s (bytes_eq text (codes "while")) (t.While s) _ (own_place refl)
-    (either s (bytes_eq text (codes "call")) t.Call _ (no_place refl)
-    (either s (bytes_eq text (codes "undef")) t.Unknown (t.Name s) (no_place refl) (own_place refl)))))))))))))))))))))))
-
-pub symbol_place : (text : List ℕ) → span_of (symbol_of text) ≡ None
-symbol_place text =
-    neither (bytes_eq text (codes "(")) t.LeftParen _ refl
-    (neither (bytes_eq text (codes ")")) t.RightParen _ refl
-    (neither (bytes_eq text (codes "{")) t.Open _ refl
-    (neither (bytes_eq text (codes "}")) t.Close _ refl
-    (neither (bytes_eq text (codes ",")) t.Comma _ refl
-    (neither (bytes_eq text (codes ";")) t.Semicolon _ refl
-    (neither (bytes_eq text (codes "=")) t.Equals _ refl
-    (neither (bytes_eq text (codes "+")) (t.Operator ops.Add) _ refl
-    (neither (bytes_eq text (codes "-")) (t.Operator ops.Sub) _ refl
-    (neither (bytes_eq text (codes "*")) (t.Operator ops.Mul) _ refl
-    (neither (bytes_eq text (codes "/")) (t.Operator ops.Div) _ refl
-    (neither (bytes_eq text (codes "%")) (t.Operator ops.Rem) _ refl
-    (neither (bytes_eq text (codes "&")) (t.Operator ops.And) _ refl
-    (neither (bytes_eq text (codes "|")) (t.Operator ops.Or) _ refl
-    (neither (bytes_eq text (codes "^")) (t.Operator ops.Xor) _ refl
-    (neither (bytes_eq text (codes "==")) (t.Operator ops.Eq) _ refl
-    (neither (bytes_eq text (codes "!=")) (t.Operator ops.Ne) _ refl
-    (neither (bytes_eq text (codes "<")) (t.Operator ops.Lt) _ refl
-    (neither (bytes_eq text (codes "<=")) (t.Operator ops.Le) t.Unknown refl refl))))))))))))))))))
-
-place_of_kind : (kind : TokenKind) (text : List ℕ) (s : Span) → HasPlace s (of_kind kind text s)
-place_of_kind kinds.Word text s = word_place text s
-place_of_kind kinds.Number text s = no_place refl
-place_of_kind kinds.Symbol text s = no_place (symbol_place text)
-
 comes_next : (high low : ℕ) (s : Span) (x : Terminal Span) (xs : List (Terminal Span)) → HasPlace s x → low ≤ s.start → s.start < s.end → ((from : ℕ) → from ≤ s.end → AreRising high from xs) → AreRising high low (x ∷ xs)
 comes_next high low s x xs (no_place e) after some more =
     subst (λ o. Comes low o × AreRising high (past low o) xs) (sym e) (tt, more low (omega arith))
@@ -131,6 +55,18 @@ module _ (bytes : List ℕ) (stop : Rest) where
       comes_next (length bytes) low (record { start = x.start; end = x.end }) (terminal_of bytes x) (map (terminal_of bytes) ts ++ unknown_terminal stop)
       (place_of_kind x.kind (text_of bytes x) (record { start = x.start; end = x.end })) (omega (arith, all.0)) all.2.some
       (λ next h. tokens_rise ts to x.end next h inside all.3)
+
+-- An order of a fence has the place of the order.
+
+span_same : (behind : Bool) (x : Terminal Span) → span_of (as_fence_order behind x) ≡ span_of x
+span_same behind (t.OrderWord o w) = cond_both (behind && is_fence_order o) (t.FenceOrder o w) (t.OrderWord o w) (λ x. span_of x ≡ Some w) (λ _. refl) (λ _. refl)
+span_same behind x = refl
+
+fences_rise : (test : Span → Bool) (behind : Bool) (high low : ℕ) (xs : List (Terminal Span)) → AreRising high low xs → AreRising high low (with_fences test behind xs)
+fences_rise test behind high low [] h = h
+fences_rise test behind high low (x ∷ xs) h =
+    subst (λ o. Comes low o × AreRising high (past low o) (with_fences test (is_name_with test x) xs)) (sym (span_same behind x))
+    (h.0, fences_rise test (is_name_with test x) high (past low (span_of x)) xs h.1)
 
 -- After the header.
 
@@ -152,5 +88,11 @@ written_tokens bytes tree w =
 pub written_rises : (bytes : List ℕ) (tree : TextTree Span) → Writes bytes tree → Rising (length bytes) 0 (spelling tree)
 written_rises bytes tree w =
     let tokens = written_tokens bytes tree w in
-    subst (AreRising (length bytes) 0) (sym w.spelled.tokens)
-    (tt, (tt, tokens_rise bytes w.stop w.rest (length bytes) tokens.0 0 (omega arith) (omega arith) tokens.1))
+    subst (AreRising (length bytes) 0) (sym w.spelled.tokens) (
+      tt,
+      (
+        tt,
+        fences_rise (is_fence_word bytes (has_fences bytes w.tokens)) false (length bytes) 0 (map (terminal_of bytes) w.rest ++ unknown_terminal w.stop)
+            (tokens_rise bytes w.stop w.rest (length bytes) tokens.0 0 (omega arith) (omega arith) tokens.1),
+      ),
+    )

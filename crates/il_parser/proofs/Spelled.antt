@@ -2,8 +2,9 @@
 -- than the limit.
 use Rattle.std.proofs.Common.{◌≡◌, ℕ, suc, ◌+◌, ◌≤◌, List, [], ◌∷◌, ◌++◌, map, length, Bool, true, false, not, cond, ◌&&◌, nat_le, Option, Some, None, refl, sym, ap, ◌∙◌, subst, arith}
 use Rattle.std.specs.List.{list_all}
-use Rattle.std.proofs.lemmas.Bool.{and_parts, and_from, or_left, leb-true}
+use Rattle.std.proofs.lemmas.Bool.{and_parts, and_from, or_left, leb-true, cond_both}
 use Rattle.token_machine.specs.Text.{plain, tokens_of, WithinLimits}
+use Rattle.values_undef.specs.Access.{is_fence_order}
 use Rattle.il_syntax.specs.Name.{is_letter, is_digit, is_word_byte, is_word, is_name, is_among, reserved}
 use Rattle.il_syntax.specs.Statements.{depth_of, depth_of_all}
 use Rattle.il_lexer.specs.declared.token.Token.{Token}
@@ -24,15 +25,15 @@ use Rattle.il_grammar.specs.declared.syntax.RawOrder.{RawOrder}
 use Rattle.il_grammar.specs.declared.syntax.RawUpdate.TheVariants.{Add as Adding, Swap as Swapping}
 use Rattle.il_grammar.specs.declared.syntax.RawLocation.{RawLocation}
 use Rattle.il_grammar.specs.Name.{name_text}
-use Rattle.il_grammar.specs.Grammar.{Snoc, empty, append, Simple, skip, store, print, copy, compute, load, update, cas, call, Tree, simply, choice, choice_else, repeat, Trees, no_tree, add_tree, Routine, TextTree, Marks, past_depth, open_at, literal, name, atom, order_if_any, listed, listed_if_any, each, simple, statement, statements, location, registers, function, thread, spelling}
-use Rattle.il_reader.specs.Terminals.{word_of, symbol_of, of_kind, terminal_of, unknown_terminal}
+use Rattle.il_grammar.specs.Grammar.{Snoc, empty, append, Simple, skip, store, fence, print, copy, compute, load, update, cas, call, Tree, simply, choice, choice_else, repeat, Trees, no_tree, add_tree, Routine, TextTree, Marks, past_depth, open_at, literal, name, atom, order_if_any, listed, listed_if_any, each, simple, statement, statements, location, registers, function, thread, spelling}
+use Rattle.il_reader.specs.Terminals.{word_of, symbol_terminal, of_kind, terminal_of, unknown_terminal, has_fences, as_fence_order, is_name_with, with_fences, is_fence_word}
 use Rattle.il_reader.specs.Text.{Writes}
-use Rattle.il_reader.proofs.Words.{name_is_not_reserved}
+use Rattle.il_reader.proofs.Callers.{name_is_not_reserved, span_of, HasPlace, no_place, own_place, word_place, symbol_place}
 use Rattle.il_names.specs.Known.{Known}
 use Rattle.il_names.specs.Meaning.{atom_meaning, simple_meaning, tree_meaning, trees_meaning}
-use Rattle.il_parser.proofs.Rising.{span_of, HasPlace, no_place, own_place, word_place, symbol_place, written_tokens}
+use Rattle.il_parser.proofs.Rising.{written_tokens}
 use Rattle.il_parser.proofs.Each.{EachOf}
-use Rattle.il_parser.proofs.Heads.{depth_of-skip, depth_of-copy, depth_of-compute, depth_of-load, depth_of-store, depth_of-atomic_load, depth_of-atomic_store, depth_of-update, depth_of-print, depth_of-call, depth_of-if, depth_of-while, depth_of_all-push}
+use Rattle.il_parser.proofs.Heads.{depth_of-skip, depth_of-copy, depth_of-compute, depth_of-load, depth_of-store, depth_of-atomic_load, depth_of-atomic_store, depth_of-update, depth_of-fence, depth_of-print, depth_of-call, depth_of-if, depth_of-while, depth_of_all-push}
 
 -- Tokens.
 
@@ -70,7 +71,7 @@ module _ (bytes : List ℕ) (s : Span) where
   token_named : (kind : TokenKind) → is_lexeme kind (name_text bytes s) ≡ true → IsNamed bytes (of_kind kind (name_text bytes s) s)
   token_named kinds.Word is = word_named (word_of (name_text bytes s) s) refl (word_place (name_text bytes s) s) is
   token_named kinds.Number is = tt
-  token_named kinds.Symbol is = symbol_named (symbol_of (name_text bytes s)) (symbol_place (name_text bytes s))
+  token_named kinds.Symbol is = symbol_named (symbol_terminal (name_text bytes s)) (symbol_place (name_text bytes s))
 
 unknown_named : (bytes : List ℕ) (stop : Rest) → AreNamed bytes (unknown_terminal stop)
 unknown_named bytes at_end = tt
@@ -79,6 +80,14 @@ unknown_named bytes (stopped_at at) = (tt, tt)
 tokens_named : (bytes : List ℕ) (stop : Rest) (ts : List Token) (from to : ℕ) → AreTokensOf bytes from ts to → AreNamed bytes (map (terminal_of bytes) ts ++ unknown_terminal stop)
 tokens_named bytes stop [] from to all = unknown_named bytes stop
 tokens_named bytes stop (x ∷ ts) from to all = (token_named bytes (record { start = x.start; end = x.end }) x.kind all.2.spelled, tokens_named bytes stop ts x.end to all.3)
+
+fence_named : (bytes : List ℕ) (behind : Bool) (x : Terminal Span) → IsNamed bytes x → IsNamed bytes (as_fence_order behind x)
+fence_named bytes behind (t.OrderWord o w) h = cond_both (behind && is_fence_order o) (t.FenceOrder o w) (t.OrderWord o w) (IsNamed bytes) (λ _. tt) (λ _. tt)
+fence_named bytes behind x h = h
+
+fences_named : (bytes : List ℕ) (test : Span → Bool) (behind : Bool) (xs : List (Terminal Span)) → AreNamed bytes xs → AreNamed bytes (with_fences test behind xs)
+fences_named bytes test behind [] h = tt
+fences_named bytes test behind (x ∷ xs) h = (fence_named bytes behind x h.0, fences_named bytes test (is_name_with test x) xs h.1)
 
 -- Marks.
 
@@ -95,7 +104,14 @@ pub written_fine : (bytes : List ℕ) (tree : TextTree Span) → Writes bytes tr
 written_fine bytes tree w =
     let tokens = written_tokens bytes tree w in
     are_fine bytes (spelling tree) w.spelled.within
-    (subst (AreNamed bytes) (sym w.spelled.tokens) (tt, (tt, tokens_named bytes w.stop w.rest tokens.0 (length bytes) tokens.1)))
+    (subst (AreNamed bytes) (sym w.spelled.tokens) (
+      tt,
+      (
+        tt,
+        fences_named bytes (is_fence_word bytes (has_fences bytes w.tokens)) false (map (terminal_of bytes) w.rest ++ unknown_terminal w.stop)
+            (tokens_named bytes w.stop w.rest tokens.0 (length bytes) tokens.1),
+      ),
+    ))
 
 -- what is left of marks after a part
 module _ (bytes : List ℕ) where
@@ -137,6 +153,7 @@ module _ (bytes : List ℕ) where
   simple_rest : (x : Simple Span) (rest : Marks Span) → AreFine bytes (simple x rest) → AreFine bytes rest
   simple_rest (skip w) rest h = h.2
   simple_rest (store w o x a) rest h = atom_rest a rest (order_rest o _ h.2).2.2
+  simple_rest (fence w o) rest h = h.2.2
   simple_rest (print w a) rest h = atom_rest a rest h.2
   simple_rest (copy r a) rest h = atom_rest a rest h.2.2
   simple_rest (compute r a op b) rest h = atom_rest b rest (atom_rest a _ h.2.2).2
@@ -160,6 +177,7 @@ module _ (bytes : List ℕ) where
     simple_shallow (skip w) = depth_of-skip
     simple_shallow (store w None x a) = depth_of-store _ _
     simple_shallow (store w (Some o) x a) = depth_of-atomic_store _ _ _
+    simple_shallow (fence w o) = depth_of-fence _
     simple_shallow (print w a) = depth_of-print _
     simple_shallow (copy r a) = depth_of-copy _ _
     simple_shallow (compute r a op b) = depth_of-compute _ _ _ _

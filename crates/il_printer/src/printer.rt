@@ -8,7 +8,7 @@ use crate::pieces::{
 };
 use crate::statements::push_statements;
 use il_syntax::text_order::is_shallow;
-use il_syntax::{Function, Location, Name, Program, Start};
+use il_syntax::{Function, Location, Name, Program, Start, has_no_fence};
 use std::alloc::Global;
 use values_undef::{Bytes, NoMemory};
 
@@ -152,11 +152,22 @@ fn push_threads(out: &mut Vec<u8>, p: &Program, threads: &[Start]) -> Result<(),
     Ok(())
 }
 
+fn push_header(out: &mut Vec<u8>, p: &Program) -> Result<(), NoMemory>
+    ensures { OnOk result (out.new.items ≡ out.old.items ++ spec.line 0 (spec.header_text p.now)) }
+{
+    if has_no_fence(p) {
+        push(out, b"il 1\n")
+    } else {
+        push(out, b"il 2\n")
+    }
+}
+
+/// Writes the canonical text of a program at the end of what was written before.
 #[tactic(auto, unfolding(il_syntax::specs::Text::program_text))]
-fn push_program(out: &mut Vec<u8>, p: &Program) -> Result<(), NoMemory>
+pub fn push_program(out: &mut Vec<u8>, p: &Program) -> Result<(), NoMemory>
     ensures { OnOk result (out.new.items ≡ out.old.items ++ spec.program_text p.now) }
 {
-    push(out, b"il 1\n")?;
+    push_header(out, p)?;
     push_locations(out, b"na", p.na.as_slice())?;
     push_locations(out, b"atomic", p.atomic.as_slice())?;
     push_functions(out, p, p.functions.as_slice())?;

@@ -1,6 +1,9 @@
-pub mod Numbers
-pub mod Within
-pub mod Single
-pub mod Named
-pub mod Total
-pub mod Words
+mod Numbers
+mod Within
+mod Single
+mod Named
+mod Total
+mod Words
+mod Fences
+mod Places
+pub mod Callers

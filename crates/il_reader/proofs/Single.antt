@@ -1,20 +1,20 @@
 -- A text has one meaning or one refusal.
 use Rattle.std.proofs.Common.{◌≡◌, ℕ, List, ◌-◌, length, Option, Some, None, Result, Ok, Err, IfOk, IfErr, MatchResult, refl, sym, ap, ◌∙◌, subst}
 use Rattle.token_machine.specs.Text.{Spells, IsFirstFault}
-use Rattle.token_machine.proofs.Faults.{one_tree, one_fault, spelled_faultless}
+use Rattle.token_machine.proofs.Callers.{one_tree, one_fault, spelled_faultless}
 use Rattle.il_lexer.specs.declared.token.Token.{Token}
 use Rattle.il_lexer.specs.Text.{Rest, Lexes}
-use Rattle.il_lexer.proofs.Unique.{one_reading}
+use Rattle.il_lexer.proofs.Callers.{one_reading}
 use Rattle.il_grammar.specs.declared.syntax.Span.{Span}
 use Rattle.il_grammar.specs.declared.syntax.RawText.{RawText}
 use Rattle.il_grammar.specs.declared.rule.Rule.{Rule}
 use Rattle.il_grammar.specs.declared.rule.Rule.TheVariants.{P1, P2, P3}
 use Rattle.il_grammar.specs.Grammar.{TextTree, spelling}
-use Rattle.il_grammar.specs.Reading.{tree_of}
-use Rattle.il_grammar.proofs.Instance.{reads, no_place}
+use Rattle.il_grammar.specs.Reading.{text_tree_of}
+use Rattle.il_grammar.proofs.Callers.{reads, no_place}
 use Rattle.il_reader.specs.declared.fault.ParseFault.{ParseFault}
 use Rattle.il_reader.specs.declared.fault.ParseFault.TheVariants as faults
-use Rattle.il_reader.specs.Terminals.{terminals_of, after_header}
+use Rattle.il_reader.specs.Terminals.{terminals_of, after_header, has_fences}
 use Rattle.il_reader.specs.Refusal.{Refusal, refusal_at, IfRefused}
 use Rattle.il_reader.specs.Text.{starts, place_at, Writes, IsFormRefusal, foreign, headless, faulty, IsAnswer}
 
@@ -31,16 +31,16 @@ module _ (bytes : List ℕ) where
   same_rest : (ts ts' rest rest' : List Token) (s s' : Rest) → Lexes 0 bytes ts s → Lexes 0 bytes ts' s' → after_header bytes ts ≡ Some rest → after_header bytes ts' ≡ Some rest' → rest ≡ rest'
   same_rest ts ts' rest rest' s s' l l' h h' = same_some rest rest' (after_header bytes ts) h (ap (after_header bytes) (one_reading l l').0 ∙ h')
 
-  same_terminals : (ts ts' rest rest' : List Token) (s s' : Rest) → Lexes 0 bytes ts s → Lexes 0 bytes ts' s' → after_header bytes ts ≡ Some rest → after_header bytes ts' ≡ Some rest' → terminals_of bytes rest s ≡ terminals_of bytes rest' s'
+  same_terminals : (ts ts' rest rest' : List Token) (s s' : Rest) → Lexes 0 bytes ts s → Lexes 0 bytes ts' s' → after_header bytes ts ≡ Some rest → after_header bytes ts' ≡ Some rest' → terminals_of bytes (has_fences bytes ts) rest s ≡ terminals_of bytes (has_fences bytes ts') rest' s'
   same_terminals ts ts' rest rest' s s' l l' h h' =
       let rests = same_rest ts ts' rest rest' s s' l l' h h' in
-      let stops = (one_reading l l').1 in
-      λ i. terminals_of bytes (rests i) (stops i)
+      let same = one_reading l l' in
+      λ i. terminals_of bytes (has_fences bytes (same.0 i)) (rests i) (same.1 i)
 
   -- the bytes spell one list of statements at most
   pub one_text : (xs ys : TextTree Span) → Writes bytes xs → Writes bytes ys → xs ≡ ys
   one_text xs ys p q =
-      one_tree P3 (reads no_place) (terminals_of bytes q.rest q.stop) xs ys
+      one_tree P3 (reads no_place) (terminals_of bytes (has_fences bytes q.tokens) q.rest q.stop) xs ys
       (subst (λ ts. Spells spelling ts xs) (same_terminals p.tokens q.tokens p.rest q.rest p.stop q.stop p.lexed q.lexed p.headed q.headed) p.spelled)
       q.spelled
 
@@ -49,7 +49,7 @@ module _ (bytes : List ℕ) where
   written_unrefused xs r p (foreign at found is) = clash at _ found p.pure
   written_unrefused xs r p (headless ts s pure l h is) = headless_headed ts p.tokens p.rest s p.stop l p.lexed h p.headed
   written_unrefused xs r p (faulty ts s rest f pure l h first is) =
-      spelled_faultless P3 (reads no_place) (terminals_of bytes rest s) xs f
+      spelled_faultless P3 (reads no_place) (terminals_of bytes (has_fences bytes ts) rest s) xs f
       (subst (λ ts. Spells spelling ts xs) (same_terminals p.tokens ts p.rest rest p.stop s p.lexed l p.headed h) p.spelled) first
 
   same_place : (ts ts' : List Token) (s s' : Rest) (rule rule' : Rule) (index : List Token → Rest → ℕ) → ts ≡ ts' → s ≡ s' → rule ≡ rule' → refusal_at bytes rule (place_at bytes ts s (index ts s)) ≡ refusal_at bytes rule' (place_at bytes ts' s' (index ts' s'))
@@ -68,13 +68,13 @@ module _ (bytes : List ℕ) where
   one_refusal r q (faulty ts s rest f pure l h first is) (headless ts' s' pure' l' h' is') = absurd (headless_headed ts' ts rest s' s l' l h' h)
   one_refusal r q (faulty ts s rest f pure l h first is) (faulty ts' s' rest' f' pure' l' h' first' is') =
       let same = one_reading l l' in
-      let faults : f ≡ f' = one_fault P3 (reads no_place) (terminals_of bytes rest' s') f f'
+      let faults : f ≡ f' = one_fault P3 (reads no_place) (terminals_of bytes (has_fences bytes ts') rest' s') f f'
       (subst (λ ts. IsFirstFault spelling P3 ts f) (same_terminals ts ts' rest rest' s s' l l' h h') first) first' in
       is ∙ (λ i. refusal_at bytes (faults i).rule (place_at bytes (same.0 i) (same.1 i) (length (starts (same.0 i) (same.1 i)) - (faults i).left))) ∙ sym is'
 
 -- The four clauses of a reader that answers with a text or the first refusal.
 module _ (bytes : List ℕ) where
-  pub found : (r : Result RawText ParseFault) → IsAnswer bytes r → IfOk r (λ x. Writes bytes (tree_of x))
+  pub found : (r : Result RawText ParseFault) → IsAnswer bytes r → IfOk r (λ x. Writes bytes (text_tree_of x))
   found (Ok x) a = a
   found (Err _) a = tt
 
@@ -83,12 +83,12 @@ module _ (bytes : List ℕ) where
   refused (Err (faults.Refused rule line column)) a = a
   refused (Err faults.NoMemory) a = tt
 
-  pub only : (r : Result RawText ParseFault) → IsAnswer bytes r → (p : TextTree Span) → Writes bytes p → MatchResult r (λ x. tree_of x ≡ p) (λ e. e ≡ faults.NoMemory)
-  only (Ok x) a p w = one_text bytes (tree_of x) p a w
+  pub only : (r : Result RawText ParseFault) → IsAnswer bytes r → (p : TextTree Span) → Writes bytes p → MatchResult r (λ x. text_tree_of x ≡ p) (λ e. e ≡ faults.NoMemory)
+  only (Ok x) a p w = one_text bytes (text_tree_of x) p a w
   only (Err (faults.Refused rule line column)) a p w = absurd (written_unrefused bytes p _ w a)
   only (Err faults.NoMemory) a p w = refl
 
   pub exact : (r : Result RawText ParseFault) → IsAnswer bytes r → (q : Refusal) → IsFormRefusal bytes q → MatchResult r (λ x. ⊥) (λ e. IfRefused e (λ g. g ≡ q))
-  exact (Ok x) a q p = written_unrefused bytes (tree_of x) q a p
+  exact (Ok x) a q p = written_unrefused bytes (text_tree_of x) q a p
   exact (Err (faults.Refused rule line column)) a q p = one_refusal bytes _ q a p
   exact (Err faults.NoMemory) a q p = tt

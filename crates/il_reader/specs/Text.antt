@@ -12,10 +12,10 @@ use Rattle.il_grammar.specs.declared.rule.Rule.TheVariants.{P1, P2, P3}
 use Rattle.il_grammar.specs.Name.{name_text}
 use Rattle.il_grammar.specs.Grammar.{TextTree, spelling}
 use Rattle.il_grammar.specs.Mapped.{terminal_map}
-use Rattle.il_grammar.specs.Reading.{tree_of}
+use Rattle.il_grammar.specs.Reading.{text_tree_of}
 use Rattle.il_reader.specs.declared.fault.ParseFault.{ParseFault}
 use Rattle.il_reader.specs.declared.fault.ParseFault.TheVariants as faults
-use Rattle.il_reader.specs.Terminals.{terminals_of, after_header}
+use Rattle.il_reader.specs.Terminals.{terminals_of, after_header, has_fences}
 use Rattle.il_reader.specs.Refusal.{Refusal, refusal_at}
 
 abbrev pub unknown_start : Rest → List ℕ
@@ -38,7 +38,7 @@ pub record Writes (bytes : List ℕ) (tree : TextTree Span) : Type 0 where
   pub pure : position is_foreign bytes ≡ None
   pub lexed : Lexes 0 bytes tokens stop
   pub headed : after_header bytes tokens ≡ Some rest
-  pub spelled : Spells spelling (terminals_of bytes rest stop) tree
+  pub spelled : Spells spelling (terminals_of bytes (has_fences bytes tokens) rest stop) tree
 
 -- the bytes are a text that is written so, with texts for names
 pub record WritesNamed (bytes : List ℕ) (tree : TextTree (List ℕ)) : Type 0 where
@@ -48,7 +48,7 @@ pub record WritesNamed (bytes : List ℕ) (tree : TextTree (List ℕ)) : Type 0 
   pub pure : position is_foreign bytes ≡ None
   pub lexed : Lexes 0 bytes tokens stop
   pub headed : after_header bytes tokens ≡ Some rest
-  pub spelled : Spells spelling (map (terminal_map (name_text bytes)) (terminals_of bytes rest stop)) tree
+  pub spelled : Spells spelling (map (terminal_map (name_text bytes)) (terminals_of bytes (has_fences bytes tokens) rest stop)) tree
 
 -- the first refusal of form: a foreign byte anywhere, then the header, then the first fault of the grammar
 pub data IsFormRefusal (bytes : List ℕ) (r : Refusal) : Type 0 where
@@ -57,11 +57,11 @@ pub data IsFormRefusal (bytes : List ℕ) (r : Refusal) : Type 0 where
       → r ≡ refusal_at bytes P2 (place_at bytes tokens stop 0) → IsFormRefusal bytes r
   faulty : (tokens : List Token) (stop : Rest) (rest : List Token) (f : Fault Rule)
       → position is_foreign bytes ≡ None → Lexes 0 bytes tokens stop → after_header bytes tokens ≡ Some rest
-      → IsFirstFault spelling P3 (terminals_of bytes rest stop) f
+      → IsFirstFault spelling P3 (terminals_of bytes (has_fences bytes tokens) rest stop) f
       → r ≡ refusal_at bytes f.rule (place_at bytes tokens stop (length (starts tokens stop) - f.left)) → IsFormRefusal bytes r
 
 -- the answer is the text as the bytes write it, or their first refusal of form
 abbrev pub IsAnswer : List ℕ → Result RawText ParseFault → Type 0
-IsAnswer bytes (Ok x) = Writes bytes (tree_of x)
+IsAnswer bytes (Ok x) = Writes bytes (text_tree_of x)
 IsAnswer bytes (Err (faults.Refused rule line column)) = IsFormRefusal bytes (record { rule = rule; line = line; column = column })
 IsAnswer bytes (Err faults.NoMemory) = Unit {0}

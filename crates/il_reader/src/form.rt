@@ -5,14 +5,14 @@ ghost use Rattle.std.specs.List.{position, All};
 ghost use Rattle.il_lexer.specs.Text.{is_foreign, Lexes, rest_of};
 ghost use Rattle.il_grammar.specs.declared.syntax.Span.{Span};
 ghost use Rattle.il_grammar.specs.Grammar.{TextTree};
-ghost use Rattle.il_grammar.specs.Reading.{tree_of};
+ghost use Rattle.il_grammar.specs.Reading.{text_tree_of};
 ghost use Rattle.il_reader.specs.Refusal.{Refusal, IfRefused};
-ghost use Rattle.il_reader.specs.Terminals.{IsWithin, after_header};
+ghost use Rattle.il_reader.specs.Terminals.{IsWithinText, after_header};
 ghost use Rattle.il_reader.specs.Text.{Writes, IsFormRefusal, IsAnswer};
 
 use crate::fault::{ParseFault, refused_at};
 use crate::place::{count, place};
-use crate::terminal::{after_header, terminals};
+use crate::terminal::{after_header, has_fences, terminals};
 use il_grammar::{RawText, Rule, read};
 use il_lexer::{Lexed, Token, foreign_byte, scan};
 use std::alloc::Global;
@@ -31,7 +31,8 @@ fn after_its_header(
     requires small { length bytes.now < 2 ^ 32 - 1 }
     ensures { IsAnswer bytes.now result }
 {
-    let terminals = terminals(alloc, bytes, rest, lexed.unknown)?;
+    let fences = has_fences(bytes, lexed.tokens.as_slice());
+    let terminals = terminals(alloc, bytes, fences, rest, lexed.unknown)?;
     match read(alloc, &terminals) {
         Ok(text) => Ok(text),
         Err(ReadError::NoMemory) => Err(ParseFault::NoMemory),
@@ -81,10 +82,10 @@ fn text(alloc: Global, bytes: &[u8]) -> Result<RawText, ParseFault>
 pub fn read_text(alloc: Global, bytes: &[u8]) -> Result<RawText, ParseFault>
     requires { length bytes.now < 2 ^ 32 - 1 }
     // What is answered is written, and a refusal that is answered is the first of form.
-    ensures ok { IfOk result (λ x. Writes bytes.now (tree_of x)) }
+    ensures ok { IfOk result (λ x. Writes bytes.now (text_tree_of x)) }
     ensures refused { IfErr result (λ e. IfRefused e (λ r. IsFormRefusal bytes.now r)) }
     // What is written is answered, and so is the first refusal, unless memory runs out.
-    ensures only { (tree : TextTree Span) → Writes bytes.now tree → MatchResult result (λ x. tree_of x ≡ tree) (λ e. e ≡ ParseFault.NoMemory) }
+    ensures only { (tree : TextTree Span) → Writes bytes.now tree → MatchResult result (λ x. text_tree_of x ≡ tree) (λ e. e ≡ ParseFault.NoMemory) }
     ensures exact { (r : Refusal) → IsFormRefusal bytes.now r → MatchResult result (λ _. ⊥) (λ e. IfRefused e (λ q. q ≡ r)) }
 {
     text(alloc, bytes)

@@ -1,9 +1,11 @@
 //! What the grammar sees of the tokens.
 
 ghost use Rattle.std.specs.Prelude.{◌≡◌, ◌+◌, ◌≤◌, ◌-◌, ◌^◌, ◌∷◌, ◌++◌, map, min, length, slice_range, IfOk, None, Some, MatchOption};
+ghost use Rattle.std.specs.Prelude.{◌||◌, codes, true};
+ghost use Rattle.std.specs.Str.{bytes_eq};
 ghost use Rattle.std.specs.List.{All};
 ghost use Rattle.il_lexer.specs.Text.{rest_of};
-ghost use Rattle.il_reader.specs.Terminals.{digits_value, number_of, word_of, other_word_of, operator_of, symbol_of, IsWithin, terminal_of, terminals_of, after_header, text_of};
+ghost use Rattle.il_reader.specs.Terminals.{digits_value, number_value, word_of, other_word_of, operator_of, symbol_terminal, IsWithinText, terminal_of, terminals_of, after_header, has_fences, as_fence_order, is_name_with, is_fence_word, text_of};
 
 use il_grammar::{Span, Terminal};
 use il_lexer::{Token, TokenKind};
@@ -12,7 +14,7 @@ use values_undef::{Op, Order};
 
 /// The value of some digits, or the greatest number where it is greater.
 fn number(digits: &[u8]) -> u64
-    ensures { result ≡ number_of digits.now }
+    ensures { result ≡ number_value digits.now }
 {
     let mut value: u64 = 0;
     for digit in digits {
@@ -119,7 +121,7 @@ fn operator(text: &[u8]) -> Terminal<Span>
 }
 
 fn symbol(text: &[u8]) -> Terminal<Span>
-    ensures { result ≡ symbol_of text.now }
+    ensures { result ≡ symbol_terminal text.now }
 {
     if text == b"(".as_slice() {
         Terminal::LeftParen
@@ -142,14 +144,14 @@ fn symbol(text: &[u8]) -> Terminal<Span>
 
 /// The bytes of a token.
 fn text_of(bytes: &[u8], token: Token) -> &[u8]
-    requires { IsWithin bytes.now token }
+    requires { IsWithinText bytes.now token }
     ensures { result.now ≡ text_of bytes.now token }
 {
     &bytes[token.start as usize..token.end as usize]
 }
 
 fn terminal(bytes: &[u8], token: Token) -> Terminal<Span>
-    requires { IsWithin bytes.now token }
+    requires { IsWithinText bytes.now token }
     ensures { result ≡ terminal_of bytes.now token }
 {
     let text = text_of(bytes, token);
@@ -166,37 +168,92 @@ fn terminal(bytes: &[u8], token: Token) -> Terminal<Span>
     }
 }
 
-/// The terminals of a text with a header and these tokens after it.
+/// An order of a fence, where a fence may be.
+fn as_fence_order(behind: bool, terminal: Terminal<Span>) -> Terminal<Span>
+    ensures { result ≡ as_fence_order behind terminal }
+{
+    match terminal {
+        Terminal::OrderWord(order, word) => {
+            if behind && order.is_fence_order() {
+                Terminal::FenceOrder(order, word)
+            } else {
+                terminal
+            }
+        }
+        _ => terminal,
+    }
+}
+
+/// Whether the terminal of this token is the name `fence`, in a text that may have fences.
+#[tactic(auto, using(crate::proofs::Places::name_of_token))]
+fn is_fence_name(bytes: &[u8], fences: bool, token: Token, terminal: Terminal<Span>) -> bool
+    requires within { IsWithinText bytes.now token }
+    requires terminal { terminal ≡ terminal_of bytes.now token }
+    ensures { result ≡ is_name_with (is_fence_word bytes.now fences) terminal }
+{
+    match terminal {
+        Terminal::Name(_) => fences && text_of(bytes, token) == b"fence".as_slice(),
+        _ => false,
+    }
+}
+
+/// The terminals of a text with a header and these tokens after it, which may have fences or not.
+#[tactic(auto, using(crate::proofs::Fences::more_terminals, crate::proofs::Fences::more_behind))]
 pub fn terminals(
     alloc: Global,
     bytes: &[u8],
+    fences: bool,
     rest: &[Token],
     unknown: Option<u32>,
 ) -> Result<Vec<Terminal<Span>>, AllocError>
-    requires { All (IsWithin bytes.now) rest.now }
-    ensures { IfOk result (λ v. v.items ≡ terminals_of bytes.now rest.now (rest_of unknown)) }
+    requires { All (IsWithinText bytes.now) rest.now }
+    ensures { IfOk result (λ v. v.items ≡ terminals_of bytes.now fences rest.now (rest_of unknown)) }
 {
     let mut terminals = Vec::new(alloc);
     terminals.push(Terminal::Il)?;
     terminals.push(Terminal::Version)?;
+    let mut behind = false;
     for token in rest {
-        terminals.push(terminal(bytes, *token))?;
+        let terminal = terminal(bytes, *token);
+        terminals.push(as_fence_order(behind, terminal))?;
+        behind = is_fence_name(bytes, fences, *token, terminal);
     }
-    if unknown.is_some() {
-        terminals.push(Terminal::Unknown)?;
+    match unknown {
+        None => Ok(terminals),
+        Some(_) => {
+            terminals.push(Terminal::Unknown)?;
+            Ok(terminals)
+        }
     }
-    Ok(terminals)
+}
+
+/// Whether it is the version of a header.
+fn is_version(text: &[u8]) -> bool
+    ensures { result ≡ (bytes_eq text.now (codes "1") || bytes_eq text.now (codes "2")) }
+{
+    text == b"1".as_slice() || text == b"2".as_slice()
+}
+
+/// Whether the header is that of texts that may have fences.
+pub fn has_fences(bytes: &[u8], tokens: &[Token]) -> bool
+    requires { All (IsWithinText bytes.now) tokens.now }
+    ensures { result ≡ has_fences bytes.now tokens.now }
+{
+    match tokens {
+        [_, second, ..] => text_of(bytes, *second) == b"2".as_slice(),
+        _ => false,
+    }
 }
 
 /// The tokens after the header, where the text begins with it.
 pub fn after_header<'a>(bytes: &[u8], tokens: &'a [Token]) -> Option<&'a [Token]>
-    requires { All (IsWithin bytes.now) tokens.now }
+    requires { All (IsWithinText bytes.now) tokens.now }
     ensures { MatchOption result (after_header bytes.now tokens.now ≡ None) (λ rest. after_header bytes.now tokens.now ≡ Some rest.now) }
 {
     match tokens {
         [first, second, rest @ ..]
-            if text_of(bytes, *first) == b"il".as_slice()
-                && text_of(bytes, *second) == b"1".as_slice() => Some(rest),
+            if text_of(bytes, *first) == b"il".as_slice() && is_version(text_of(bytes, *second)) =>
+            Some(rest),
         _ => None,
     }
 }

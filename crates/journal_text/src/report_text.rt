@@ -3,13 +3,12 @@ ghost use Rattle.std.specs.Prelude.{◌≡◌, ◌++◌, ◌∷◌, [], IfOk, On
 ghost use Rattle.std.specs.Fmt.{decimal, signed_decimal};
 ghost use Rattle.std.specs.List.{flat_map, join_with_byte};
 ghost use Rattle.values_undef.specs.Journal.{printed};
-ghost use Rattle.il_syntax.specs.Text.{program_text};
 ghost use Rattle.journal_text.specs.Line.{entry_line};
 ghost use Rattle.journal_text.specs.Report as spec;
 
 use crate::line::push_entry;
 use crate::pieces::{push, push_blank, push_number, push_signed};
-use il_printer::print;
+use il_printer::push_program;
 use il_syntax::Program;
 use std::alloc::{AllocError, Global};
 use values_undef::{Bytes, Ending, Entry, Event, Journal, NoMemory, ending_of};
@@ -89,6 +88,7 @@ fn push_printed(out: &mut Vec<u8>, entry: &Entry) -> Result<(), AllocError>
         | Event::Write { .. }
         | Event::Update { .. }
         | Event::Miss { .. }
+        | Event::Fence { .. }
         | Event::Fail { .. }
         | Event::FailCompare { .. }
         | Event::Finish
@@ -113,27 +113,6 @@ fn push_titled_outputs(out: &mut Vec<u8>, journal: &Journal) -> Result<(), Alloc
     push_outputs(out, journal.entries.as_slice())
 }
 
-/// The report, where the canonical text of the program is at hand.
-fn report_with_text(
-    alloc: Global,
-    p: &Program,
-    text: &[u8],
-    journal: &Journal,
-    source: &Journal,
-    threads: u32,
-) -> Result<Bytes, NoMemory>
-    requires { text.now ≡ program_text p.now }
-    ensures { IfOk result (λ bytes. bytes ≡ spec.report_text p.now journal.now source.now threads) }
-{
-    let mut out = Vec::new(alloc);
-    push(&mut out, b"program\n")?;
-    push(&mut out, text)?;
-    push_titled_journal(&mut out, b"journal", p, journal, threads)?;
-    push_titled_journal(&mut out, b"source", p, source, threads)?;
-    push_titled_outputs(&mut out, journal)?;
-    Ok(Bytes { bytes: out })
-}
-
 /// The report of a run: the program that ran, its journal, the journal of the program that was
 /// given, and the values that the run printed. Both journals name locations of the program, which
 /// has so many threads. It is a total function: a number that names no location is written as an
@@ -147,6 +126,11 @@ pub fn report(
 ) -> Result<Bytes, NoMemory>
     ensures { IfOk result (λ bytes. bytes ≡ spec.report_text p.now journal.now source.now threads) }
 {
-    let text = print(alloc, p)?;
-    report_with_text(alloc, p, text.bytes.as_slice(), journal, source, threads)
+    let mut out = Vec::new(alloc);
+    push(&mut out, b"program\n")?;
+    push_program(&mut out, p)?;
+    push_titled_journal(&mut out, b"journal", p, journal, threads)?;
+    push_titled_journal(&mut out, b"source", p, source, threads)?;
+    push_titled_outputs(&mut out, journal)?;
+    Ok(Bytes { bytes: out })
 }

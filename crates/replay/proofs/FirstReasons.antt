@@ -1,8 +1,9 @@
 -- Which reasons hold of an entry.
-use Rattle.std.proofs.Common.{◌≡◌, ◌≢◌, ℕ, zero, suc, ◌+◌, ◌<◌, ◌≤◌, ◌⊎◌, inl, inr, Bool, true, false, length, refl, sym, ap, subst, ◌∙◌, arith}
+use Rattle.std.proofs.Common.{◌≡◌, ◌≢◌, ℕ, zero, suc, ◌<◌, ◌≤◌, ◌⊎◌, inl, inr, Bool, true, false, length, refl, sym, ap, subst, ◌∙◌, arith}
 use Rattle.std.proofs.lemmas.Bool.{false≢true, true≢false}
 use Rattle.values_undef.specs.Access.{choice_of_event}
 use Rattle.values_undef.specs.declared.access.Event.{Event}
+use Rattle.values_undef.specs.declared.access.Access.{Access}
 use Rattle.values_undef.specs.declared.access.Access.TheVariants as access
 use Rattle.values_undef.specs.declared.access.Choice.{Choice}
 use Rattle.values_undef.specs.declared.access.Choice.TheVariants.{Plain}
@@ -11,21 +12,17 @@ use Rattle.il_syntax.specs.declared.program.Program.{Program}
 use Rattle.thread_core.specs.declared.next.Next.{Next}
 use Rattle.thread_core.specs.declared.next.Next.TheVariants as next
 use Rattle.view_machine.specs.declared.stepped.Stepped.TheVariants as stepped
-use Rattle.view_machine.specs.State.{State, has_ended, next_in, view_in, Allows, IsRunning, IsStep, step_by, after_step, IsSpendable}
-use Rattle.std.proofs.lemmas.List.{length-map, length-set}
-use Rattle.std.proofs.Common.{map, set, add-one}
+use Rattle.view_machine.specs.State.{State, has_ended, next_in, view_in, IsRunning, IsStep, step_by, after_step, IsSpendable}
 use Rattle.std.specs.Prelude.{IsTrue, ◌↔◌}
-use Rattle.view_machine.specs.State.{local_in, StepTaken}
+use Rattle.view_machine.specs.State.{StepTaken}
 use Rattle.view_machine.specs.declared.stepped.Stepped.{Stepped}
 use Rattle.view_machine.specs.Runs.{after_event, after_entry}
-use Rattle.view_machine.specs.Held.{Held, state_in}
-use Rattle.view_machine.proofs.RunLaws.{silent_more, after_silent-more}
-use Rattle.thread_core.specs.Frames.{advanced}
-use Rattle.thread_core.specs.Steps.{stack_in}
+use Rattle.message_memory.specs.Step.{IsLegal}
+use Rattle.view_machine.proofs.Callers.{step_legal}
 use Rattle.view_machine.specs.Runs.{is_spend, after_silent, AreSilent, MakesEventBy, MakesEvent, IsEntry}
 use Rattle.replay.specs.declared.verdict.Why.{Why}
 use Rattle.replay.specs.declared.verdict.Why.TheVariants as why
-use Rattle.replay.specs.Reasons.{IsGone, IsAtAccess, ReachesAccess, StaysSilent, SpendsAtTheEnd, HasOtherSilent, before_event, HasNoChoice, HasOtherEvent, IsReason, rank, IsFirstReason, IsReasonOfEvent}
+use Rattle.replay.specs.Reasons.{IsGone, IsAtAccess, HasOtherSilent, before_event, IsReason, rank, IsFirstReason, IsReasonOfEvent}
 
 -- ---- a thread that runs
 
@@ -35,6 +32,11 @@ running_stays s i r (inr h) = true≢false (sym h ∙ r.going)
 
 pub running_unfailed : (s : State) (i : ℕ) → IsRunning s i → s.memory.failed ≡ true → ⊥
 running_unfailed s i r h = true≢false (sym h ∙ r.running)
+
+-- a thread that is there and has not ended is not gone
+pub stands : (s : State) (i : ℕ) → i < length s.locals → has_ended s i ≡ false → IsGone s i → ⊥
+stands s i there going (inl h) = absurd (omega (arith, there, h))
+stands s i there going (inr h) = true≢false (sym h ∙ going)
 
 -- ---- silent steps
 
@@ -203,36 +205,6 @@ one_other_silent p s entry a b h q =
 
 -- ---- steps of the code
 
-pub there_in : (p : Program) (h : Held) (i : ℕ) → IsRunning (state_in p h) i → i < length h.locals
-there_in p h i r = omega (arith, r.there, length-map h.locals (stack_in p))
-
-running_by : (p : Program) (s : State) (i : ℕ) (n : Next) → n ≡ next.Silent → IsRunning s i → IsRunning (step_by p s i Plain n).state i
-running_by p s i next.Silent e r = record {
-  there = omega (arith, r.there, length-set s.locals i (advanced p (local_in s i)));
-  going = r.going;
-  running = r.running;
-}
-running_by p s i (next.Access a) e r = cc
-
-allowed_by : (s : State) (i : ℕ) (n : Next) → n ≡ next.Silent → Allows s.memory (view_in s i) Plain n
-allowed_by s i next.Silent e = refl
-allowed_by s i (next.Access a) e = cc
-
-silent_step : (s : State) (i : ℕ) → IsRunning s i → next_in s i ≡ next.Silent → IsStep s i Plain
-silent_step s i r e = record { able = r; allowed = allowed_by s i (next_in s i) e }
-
--- one silent step more
-pub more_silent : (p : Program) (i n : ℕ) (s t u : State) → AreSilent p i n s → t ≡ after_silent p i n s → IsRunning t i → next_in t i ≡ next.Silent → (after_step p t i Plain).state ≡ u
-    → IsRunning u i × AreSilent p i (n + 1) s × (u ≡ after_silent p i (n + 1) s)
-more_silent p i n s t u h e r q made =
-    let step : IsStep t i Plain = silent_step t i r q in
-    let silent : AreSilent p i (suc n) s = silent_more p i n s h (subst (λ (x : State). IsStep x i Plain) e step) (subst (λ (x : State). next_in x i ≡ next.Silent) e q) in
-    let after : u ≡ after_silent p i (suc n) s = sym made ∙ ap (λ (x : State). (after_step p x i Plain).state) e ∙ sym (after_silent-more p i n s) in (
-      subst (λ (x : State). IsRunning x i) made (running_by p t i (next_in t i) q r),
-      subst (λ (k : ℕ). AreSilent p i k s) (sym (add-one n)) silent,
-      subst (λ (k : ℕ). u ≡ after_silent p i k s) (sym (add-one n)) after,
-    )
-
 -- the code is silent or at an access
 pub at_access : (n : Next) → (n ≡ next.Silent → ⊥) → IsAtAccess n
 at_access next.Silent h = absurd (h refl)
@@ -246,6 +218,7 @@ at_end_or_not (next.Access (access.NaWrite x v)) = inr (λ (e : next.Access (acc
 at_end_or_not (next.Access (access.Read y o)) = inr (λ (e : next.Access (access.Read y o) ≡ next.Access access.Finish). cc)
 at_end_or_not (next.Access (access.Write y o v)) = inr (λ (e : next.Access (access.Write y o v) ≡ next.Access access.Finish). cc)
 at_end_or_not (next.Access (access.Update y o k)) = inr (λ (e : next.Access (access.Update y o k) ≡ next.Access access.Finish). cc)
+at_end_or_not (next.Access (access.Fence order)) = inr (λ (e : next.Access (access.Fence order) ≡ next.Access access.Finish). cc)
 at_end_or_not (next.Access (access.Print v)) = inr (λ (e : next.Access (access.Print v) ≡ next.Access access.Finish). cc)
 at_end_or_not (next.Access (access.Fail cause)) = inr (λ (e : next.Access (access.Fail cause) ≡ next.Access access.Finish). cc)
 at_end_or_not (next.Access access.Spend) = inr (λ (e : next.Access access.Spend ≡ next.Access access.Finish). cc)
@@ -285,12 +258,12 @@ from_true P b h e = h.0 e
 pub from_false : (P : Type 0) (b : Bool) → (IsTrue b ↔ P) → b ≡ false → P → ⊥
 from_false P b h e q = true≢false (sym (h.1 q) ∙ e)
 
-pub no_choice : (p : Program) (h k : Held) (entry : Entry) (ch : Choice) (b : Bool) → k ≡ h → ch ≡ choice_of_event entry.event → is_spend entry.event ≡ false
-    → (IsStep (state_in p h) entry.thread ch → ⊥) → (IsTrue b ↔ (next_in (state_in p k) entry.thread ≡ next.Silent)) → b ≡ false → IsReasonOfEvent p (state_in p h) entry why.Choice
-no_choice p h k entry ch b same q f none told fails =
-    has_no_choice p (state_in p h) entry
-    (at_access (next_in (state_in p h) entry.thread) (λ e. from_false (next_in (state_in p k) entry.thread ≡ next.Silent) b told fails (subst (λ (x : Held). next_in (state_in p x) entry.thread ≡ next.Silent) (sym same) e)))
-    f (λ step. none (subst (λ (x : Choice). IsStep (state_in p h) entry.thread x) (sym q) step))
+-- a choice with which the access isn't legal is no step
+pub no_choice : (p : Program) (s : State) (entry : Entry) (ch : Choice) (a : Access) → ch ≡ choice_of_event entry.event → is_spend entry.event ≡ false → next_in s entry.thread ≡ next.Access a
+    → (IsLegal s.memory (view_in s entry.thread) a ch → ⊥) → IsReasonOfEvent p s entry why.Choice
+no_choice p s entry ch a q f asks none =
+    has_no_choice p s entry (subst IsAtAccess (sym asks) tt) f
+    (λ step. none (step_legal s entry.thread ch a asks (subst (λ (x : Choice). IsStep s entry.thread x) (sym q) step)))
 
 -- ---- the whole entry
 

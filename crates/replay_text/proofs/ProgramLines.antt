@@ -2,7 +2,7 @@
 use Rattle.std.proofs.Common.{◌≡◌, ◌∙◌, ◌+◌, ◌&&◌, ℕ, sym, ap, subst, refl, Bool, true, List, [], ◌∷◌, ◌++◌, map, take, drop, codes}
 use Rattle.std.specs.List.{flat_map, list_all}
 use Rattle.std.specs.Fmt.{signed_decimal}
-use Rattle.std.proofs.lemmas.Bool.{and_parts, and_from}
+use Rattle.std.proofs.lemmas.Bool.{cond_both, and_parts, and_from}
 use Rattle.std.proofs.lemmas.List.{take-append-drop}
 use Rattle.std.proofs.lemmas.List.Folds.{list_all-append}
 use Rattle.values_undef.specs.declared.access.Order.{Order}
@@ -15,7 +15,7 @@ use Rattle.il_syntax.specs.declared.statement.Rmw.{Rmw}
 use Rattle.il_syntax.specs.declared.statement.Rmw.TheVariants.{Add, Swap, Cas}
 use Rattle.il_syntax.specs.declared.statement.Stmt.{Stmt}
 use Rattle.il_syntax.specs.declared.statement.Block.{Block}
-use Rattle.il_syntax.specs.declared.statement.Stmt.TheOpen.{Stmt-F, Skip, Copy, Compute, Load, Store, AtomicLoad, AtomicStore, Update, Print, If, While, Call}
+use Rattle.il_syntax.specs.declared.statement.Stmt.TheOpen.{Stmt-F, Skip, Copy, Compute, Load, Store, AtomicLoad, AtomicStore, Update, Fence, Print, If, While, Call}
 use Rattle.il_syntax.specs.declared.statement.Stmt.TheViews.{roll-Stmt, roll-Block}
 use Rattle.il_syntax.specs.declared.statement.Stmt.TheFolds.{fold-Block, fold-roll-Stmt, fold-roll-Block, ind-Stmt, map-Stmt, map-Block}
 use Rattle.il_syntax.specs.declared.program.Function.{Function}
@@ -23,9 +23,10 @@ use Rattle.il_syntax.specs.declared.program.Location.{Location}
 use Rattle.il_syntax.specs.declared.program.Program.{Program}
 use Rattle.il_syntax.specs.declared.program.Start.{Start}
 use Rattle.il_syntax.specs.Name.{is_name}
-use Rattle.il_syntax.specs.Text.{Lines, all_at, assignment, atom_text, block_step, call_text, compute_text, else_text, function_name, function_text, line, location_name, location_text, op_text, order_text, program_text, register_name, registers_text, statement_step, statement_text, statements_text, thread_text, update_text}
+use Rattle.il_syntax.specs.Fences.{has_no_fence}
+use Rattle.il_syntax.specs.Text.{Lines, all_at, assignment, atom_text, block_text_step, call_text, compute_text, else_text, function_name, function_text, line, location_name, location_text, op_text, order_text, program_text, register_name, registers_text, statement_text_step, statement_text, statements_text, thread_text, update_text}
 use Rattle.il_syntax.specs.WellFormed.{IsWellFormed}
-use Rattle.il_syntax.proofs.Passing.{all_both}
+use Rattle.il_syntax.proofs.Callers.{all_both}
 use Rattle.journal_text.specs.Line.{Text}
 use Rattle.replay_text.specs.Division.{HasOtherLines}
 use Rattle.replay_text.proofs.CleanTexts.{Clean, literal, both, found_clean, listed_clean, marked_line, name_clean, names_clean, signed_clean}
@@ -119,7 +120,7 @@ module _ (p : Program) (names : HasNames p) (registers : List Text) (named : lis
   IsLined s = (depth : ℕ) → HasOtherLines (statement_text p registers s depth)
 
   abbrev BlockIsLined : Block → Type 0
-  BlockIsLined b = AreLined (fold-Block Lines (List Lines) (statement_step p registers) block_step b)
+  BlockIsLined b = AreLined (fold-Block Lines (List Lines) (statement_text_step p registers) block_text_step b)
 
   abbrev Known : Type 0
   Known = (s : Stmt) × IsLined s
@@ -128,10 +129,10 @@ module _ (p : Program) (names : HasNames p) (registers : List Text) (named : lis
   KnownBlock = (b : Block) × BlockIsLined b
 
   abbrev lines_layer : Stmt-F Known KnownBlock → Stmt-F Lines (List Lines)
-  lines_layer y = map-Stmt Stmt Block Lines (List Lines) (statement_text p registers) (fold-Block Lines (List Lines) (statement_step p registers) block_step)
+  lines_layer y = map-Stmt Stmt Block Lines (List Lines) (statement_text p registers) (fold-Block Lines (List Lines) (statement_text_step p registers) block_text_step)
       (map-Stmt Known KnownBlock Stmt Block (λ e. e.0) (λ e. e.0) y)
 
-  layer_lined : (y : Stmt-F Known KnownBlock) (depth : ℕ) → HasOtherLines (statement_step p registers (lines_layer y) depth)
+  layer_lined : (y : Stmt-F Known KnownBlock) (depth : ℕ) → HasOtherLines (statement_text_step p registers (lines_layer y) depth)
   layer_lined Skip depth = marked_line depth (codes ";") (literal (codes "skip") refl) refl refl
   layer_lined (Copy r a) depth = assigned depth r (atom a)
   layer_lined (Compute r o a b) depth = assigned depth r (compute_clean o a b)
@@ -140,6 +141,7 @@ module _ (p : Program) (names : HasNames p) (registers : List Text) (named : lis
   layer_lined (AtomicLoad r order y) depth = assigned depth r (access_clean (codes "load ") order y (literal (codes "load ") refl))
   layer_lined (AtomicStore order y a) depth = marked_line depth (codes ";") (both (both (access_clean (codes "store ") order y (literal (codes "store ") refl)) comma) (atom a)) refl refl
   layer_lined (Update r order y kind) depth = assigned depth r (update_clean order y kind)
+  layer_lined (Fence o) depth = marked_line depth (codes ";") (both (literal (codes "fence ") refl) (order_clean o)) refl refl
   layer_lined (Print a) depth = marked_line depth (codes ";") (both (literal (codes "print ") refl) (atom a)) refl refl
   layer_lined (If a one other) depth =
       both_lines (both_lines (marked_line depth (codes " {") (both (literal (codes "if ") refl) (atom a)) refl refl) (all_lined _ (depth + 1) one.1)) (else_lined _ depth other.1)
@@ -154,9 +156,9 @@ module _ (p : Program) (names : HasNames p) (registers : List Text) (named : lis
   statement_lined : (s : Stmt) → IsLined s
   statement_lined = ind-Stmt IsLined BlockIsLined
       (λ x y is. subst (λ z. IsLined (roll-Stmt z)) is
-      (λ depth. subst (λ (f : Lines). HasOtherLines (f depth)) (sym (fold-roll-Stmt Lines (List Lines) (statement_step p registers) block_step (map-Stmt Known KnownBlock Stmt Block (λ e. e.0) (λ e. e.0) y))) (layer_lined y depth)))
+      (λ depth. subst (λ (f : Lines). HasOtherLines (f depth)) (sym (fold-roll-Stmt Lines (List Lines) (statement_text_step p registers) block_text_step (map-Stmt Known KnownBlock Stmt Block (λ e. e.0) (λ e. e.0) y))) (layer_lined y depth)))
       (λ x y is. subst (λ z. BlockIsLined (roll-Block z)) is
-      (subst AreLined (sym (fold-roll-Block Lines (List Lines) (statement_step p registers) block_step (map-Block Known KnownBlock Stmt Block (λ e. e.0) (λ e. e.0) y))) (known_lined y.statements)))
+      (subst AreLined (sym (fold-roll-Block Lines (List Lines) (statement_text_step p registers) block_text_step (map-Block Known KnownBlock Stmt Block (λ e. e.0) (λ e. e.0) y))) (known_lined y.statements)))
 
   statements_lined : (ss : List Stmt) (depth : ℕ) → HasOtherLines (statements_text p registers depth ss)
   statements_lined [] depth = no_lines
@@ -204,7 +206,7 @@ module _ (p : Program) (names : HasNames p) where
   unfolding program_text
   lined =
       both_lines (both_lines (both_lines (both_lines
-      (one_line (codes "il 1") refl)
+      (cond_both (has_no_fence p) (codes "il 1") (codes "il 2") (λ (t : Text). HasOtherLines (line 0 t)) (λ _. one_line (codes "il 1") refl) (λ _. one_line (codes "il 2") refl))
       (each_lined (λ l. is_name l.name) (location_text (codes "na")) (location_lined (codes "na") (literal (codes "na") refl)) p.na names.na))
       (each_lined (λ l. is_name l.name) (location_text (codes "atomic")) (location_lined (codes "atomic") (literal (codes "atomic") refl)) p.atomic names.atomic))
       (each_lined (λ f. is_name f.name && list_all is_name f.registers) (function_text p) function_lined p.functions

@@ -1,11 +1,13 @@
 -- A text that is laid out so is written as the tree that its marked tokens spell.
-use Rattle.std.proofs.Common.{◌≡◌, ℕ, ◌+◌, ◌-◌, List, [], ◌∷◌, ◌++◌, length, map, take, drop, Bool, true, not, ◌&&◌, ltb, Some, None, refl, sym, ap, ◌∙◌, subst, append_assoc, arith, length-append}
+use Rattle.std.proofs.Common.{◌≡◌, ℕ, ◌+◌, ◌-◌, List, [], ◌∷◌, ◌++◌, length, map, take, drop, Bool, true, false, cond, not, ◌&&◌, ltb, Some, None, refl, sym, ap, ◌∙◌, subst, append_assoc, arith, length-append}
 use Rattle.std.proofs.lemmas.List.{take_at, drop_at, append-nil}
-use Rattle.std.proofs.lemmas.Bool.{and_parts, and_from, cond-true, cond-false, le-ltb}
+use Rattle.std.proofs.lemmas.Bool.{and_parts, and_from, cond_both, cond-true, cond-false, le-ltb}
 use Rattle.std.proofs.lemmas.Bool.Decides.{nat_tests}
 use Rattle.std.specs.List.{list_all, slice_range, position, position_or_len}
 use Rattle.std.proofs.lemmas.List.Folds.{list_all-append}
 use Rattle.std.specs.Prelude.{codes}
+use Rattle.std.specs.Str.{bytes_eq}
+use Rattle.values_undef.specs.Access.{is_fence_order}
 use Rattle.token_machine.specs.Text.{WithinLimits, tokens_of, plain}
 use Rattle.il_syntax.specs.Name.{is_letter, is_digit, is_word_byte}
 use Rattle.il_lexer.specs.declared.token.Token.{Token}
@@ -14,16 +16,17 @@ use Rattle.il_lexer.specs.declared.token.TokenKind.TheVariants.{Word, Number, Sy
 use Rattle.il_lexer.specs.Lexeme.{is_double, is_lexeme}
 use Rattle.il_lexer.specs.Text.{is_blank, is_foreign, at_end, Lexes}
 use Rattle.il_lexer.specs.Layout.{Printed, rendered, tokens_from, IsSeparated, IsLaidOut}
-use Rattle.il_lexer.proofs.LayoutLemmas.{laid_lexes, among}
+use Rattle.il_lexer.proofs.Callers.{laid_lexes, among}
 use Rattle.il_grammar.specs.declared.syntax.Span.{Span}
 use Rattle.il_grammar.specs.declared.terminal.Terminal.{Terminal}
 use Rattle.il_grammar.specs.declared.terminal.Terminal.TheVariants as t
 use Rattle.il_grammar.specs.Name.{name_text}
 use Rattle.il_grammar.specs.Grammar.{Marks, TextTree, spelling}
 use Rattle.il_grammar.specs.Mapped.{terminal_map}
-use Rattle.il_reader.specs.Terminals.{of_kind, terminal_of}
+use Rattle.il_reader.specs.Terminals.{of_kind, terminal_of, as_fence_order, is_name_with, with_fences, is_fence_word}
 use Rattle.il_reader.specs.Text.{WritesNamed}
-use Rattle.round_trip.proofs.Laid.{AreRead, Laid}
+use Rattle.round_trip.proofs.Laid.{AreRead, without_fence, Laid}
+use Rattle.round_trip.proofs.Fenced.{StandRight, fences_back}
 
 -- the slice of the bytes that stand at a place is these bytes
 slice_there : (front text rest : List ℕ) (at : ℕ) → length front ≡ at → slice_range (front ++ (text ++ rest)) at (at + length text) ≡ text
@@ -38,7 +41,7 @@ module _ (whole : List ℕ) where
   abbrev named : List Token → List (Terminal (List ℕ))
   named ts = map (terminal_map (name_text whole)) (map (terminal_of whole) ts)
 
-  pub read_there : (ps : List Printed) (ms : Marks (List ℕ)) (front : List ℕ) (at : ℕ) → length front ≡ at → whole ≡ front ++ rendered ps → AreRead ps ms → named (tokens_from at ps) ≡ tokens_of ms
+  pub read_there : (ps : List Printed) (ms : Marks (List ℕ)) (front : List ℕ) (at : ℕ) → length front ≡ at → whole ≡ front ++ rendered ps → AreRead ps ms → named (tokens_from at ps) ≡ map without_fence (tokens_of ms)
   read_there [] [] front at here is r = refl
   read_there [] (m ∷ ms) front at here is r = absurd r
   read_there (p ∷ ps) [] front at here is r = absurd r
@@ -46,7 +49,7 @@ module _ (whole : List ℕ) where
       let slice : slice_range whole at (at + length p.text) ≡ p.text =
       ap (λ l. slice_range l at (at + length p.text)) is ∙ slice_there front p.text (p.blanks_after ++ rendered ps) at here in
       let span : Span = record { start = at; end = at + length p.text } in
-      let first : terminal_map (name_text whole) (of_kind p.kind (slice_range whole at (at + length p.text)) span) ≡ m.token =
+      let first : terminal_map (name_text whole) (of_kind p.kind (slice_range whole at (at + length p.text)) span) ≡ without_fence m.token =
       ap (λ l. terminal_map (name_text whole) (of_kind p.kind l span)) slice ∙ r.0 (name_text whole) span slice in
       let behind : whole ≡ (front ++ (p.text ++ p.blanks_after)) ++ rendered ps =
       is ∙ ap (λ l. front ++ l) (sym (append_assoc p.text p.blanks_after (rendered ps))) ∙ sym (append_assoc front (p.text ++ p.blanks_after) (rendered ps)) in
@@ -124,9 +127,46 @@ native_pure bytes e =
     cond-false (ltb (position_or_len is_foreign bytes) (length bytes)) (Some (position_or_len is_foreign bytes)) None
     (le-ltb (position_or_len is_foreign bytes) (length bytes) (omega (arith, here)))
 
+-- texts for names, before or after it is known what stands behind the word `fence`
+
+as_named : {N M : Type 0} (f : N → M) (behind : Bool) (x : Terminal N) → terminal_map f (as_fence_order behind x) ≡ as_fence_order behind (terminal_map f x)
+as_named f behind (t.OrderWord o w) =
+    cond_both (behind && is_fence_order o) (t.FenceOrder o w) (t.OrderWord o w) (λ x. terminal_map f x ≡ cond (behind && is_fence_order o) (t.FenceOrder o (f w)) (t.OrderWord o (f w)))
+    (λ e. sym (cond-true (behind && is_fence_order o) (t.FenceOrder o (f w)) (t.OrderWord o (f w)) e))
+    (λ e. sym (cond-false (behind && is_fence_order o) (t.FenceOrder o (f w)) (t.OrderWord o (f w)) e))
+as_named f behind x = refl
+
+is_named : {N M : Type 0} (f : N → M) (test : M → Bool) (x : Terminal N) → is_name_with (λ n. test (f n)) x ≡ is_name_with test (terminal_map f x)
+is_named f test (t.Name n) = refl
+is_named f test x = refl
+
+with_named : {N M : Type 0} (f : N → M) (test : M → Bool) (behind : Bool) (xs : List (Terminal N)) → map (terminal_map f) (with_fences (λ n. test (f n)) behind xs) ≡ with_fences test behind (map (terminal_map f) xs)
+with_named f test behind [] = refl
+with_named f test behind (x ∷ xs) =
+    (λ i. as_named f behind x i ∷ with_named f test (is_name_with (λ n. test (f n)) x) xs i)
+    ∙ ap (λ b. as_fence_order behind (terminal_map f x) ∷ with_fences test b (map (terminal_map f) xs)) (is_named f test x)
+
+-- the word `fence`, where it is looked for
+abbrev pub is_fence_text : Bool → List ℕ → Bool
+is_fence_text fences text = fences && bytes_eq text (codes "fence")
+
 -- the header, and a text after it that begins with a new line
-pub written : (rest : List ℕ) (ms : Marks (List ℕ)) (tree : TextTree (List ℕ)) → spelling tree ≡ plain t.Il ∷ plain t.Version ∷ ms → Laid (10 ∷ rest) ms → WritesNamed (codes "il 1" ++ 10 ∷ rest) tree
-written rest ms tree spelled l =
+abbrev pub header : Bool → List ℕ
+header false = codes "il 1"
+header true = codes "il 2"
+
+-- the terminals after the header
+read_named : (bytes : List ℕ) (fences : Bool) (ps : List Printed) (ms : Marks (List ℕ)) (front : List ℕ) (at : ℕ) → length front ≡ at → bytes ≡ front ++ rendered ps → AreRead ps ms → StandRight (is_fence_text fences) false (tokens_of ms)
+    → map (terminal_map (name_text bytes)) (with_fences (is_fence_word bytes fences) false (map (terminal_of bytes) (tokens_from at ps) ++ [])) ≡ tokens_of ms
+read_named bytes fences ps ms front at here same read right =
+    ap (λ ts. map (terminal_map (name_text bytes)) (with_fences (is_fence_word bytes fences) false ts)) (append-nil (map (terminal_of bytes) (tokens_from at ps)))
+    ∙ with_named (name_text bytes) (is_fence_text fences) false (map (terminal_of bytes) (tokens_from at ps))
+    ∙ ap (with_fences (is_fence_text fences) false) (read_there bytes ps ms front at here same read)
+    ∙ fences_back (is_fence_text fences) false (tokens_of ms) right
+
+pub written : (fences : Bool) (rest : List ℕ) (ms : Marks (List ℕ)) (tree : TextTree (List ℕ)) → spelling tree ≡ plain t.Il ∷ plain t.Version ∷ ms → Laid (10 ∷ rest) ms → StandRight (is_fence_text fences) false (tokens_of ms)
+    → WritesNamed (header fences ++ 10 ∷ rest) tree
+written false rest ms tree spelled l right =
     let bytes = codes "il 1" ++ 10 ∷ rest in
     let il : Printed = record { kind = Word; text = codes "il"; blanks_after = codes " " } in
     let version : Printed = record { kind = Number; text = codes "1"; blanks_after = l.lead } in
@@ -136,19 +176,39 @@ written rest ms tree spelled l =
     let apart : IsSeparated Number (codes "1") (l.lead ++ rendered l.pieces) = subst (IsSeparated Number (codes "1")) l.text refl in
     let laid : IsLaidOut all = (refl, refl, refl, (refl, l.blanks, apart, l.laid)) in
     let at = 4 + length l.lead in
-    let tokens = tokens_from at l.pieces in
     let here : length front ≡ at = omega arith in
-    let terminals : map (terminal_map (name_text bytes)) (map (terminal_of bytes) tokens ++ []) ≡ tokens_of ms =
-    ap (map (terminal_map (name_text bytes))) (append-nil (map (terminal_of bytes) tokens)) ∙ read_there bytes l.pieces ms front at here same l.read in
     record {
       tokens = tokens_from 0 all;
       stop = at_end;
-      rest = tokens;
+      rest = tokens_from at l.pieces;
       pure = native_pure bytes (ap (list_all is_native) same ∙ native_rendered all laid);
       lexed = subst (λ b. Lexes 0 b (tokens_from 0 all) at_end) (sym same) (laid_lexes all 0 laid);
       headed = refl;
       spelled = record {
-        tokens = ap tokens_of spelled ∙ sym (ap (λ ts. t.Il ∷ t.Version ∷ ts) terminals);
+        tokens = ap tokens_of spelled ∙ sym (ap (λ ts. t.Il ∷ t.Version ∷ ts) (read_named bytes false l.pieces ms front at here same l.read right));
+        within = subst WithinLimits (sym spelled) (refl, (refl, within_limits l.pieces ms l.read));
+      };
+    }
+written true rest ms tree spelled l right =
+    let bytes = codes "il 2" ++ 10 ∷ rest in
+    let il : Printed = record { kind = Word; text = codes "il"; blanks_after = codes " " } in
+    let version : Printed = record { kind = Number; text = codes "2"; blanks_after = l.lead } in
+    let all = il ∷ version ∷ l.pieces in
+    let same : bytes ≡ rendered all = ap (λ b. codes "il 2" ++ b) l.text in
+    let front = codes "il 2" ++ l.lead in
+    let apart : IsSeparated Number (codes "2") (l.lead ++ rendered l.pieces) = subst (IsSeparated Number (codes "2")) l.text refl in
+    let laid : IsLaidOut all = (refl, refl, refl, (refl, l.blanks, apart, l.laid)) in
+    let at = 4 + length l.lead in
+    let here : length front ≡ at = omega arith in
+    record {
+      tokens = tokens_from 0 all;
+      stop = at_end;
+      rest = tokens_from at l.pieces;
+      pure = native_pure bytes (ap (list_all is_native) same ∙ native_rendered all laid);
+      lexed = subst (λ b. Lexes 0 b (tokens_from 0 all) at_end) (sym same) (laid_lexes all 0 laid);
+      headed = refl;
+      spelled = record {
+        tokens = ap tokens_of spelled ∙ sym (ap (λ ts. t.Il ∷ t.Version ∷ ts) (read_named bytes true l.pieces ms front at here same l.read right));
         within = subst WithinLimits (sym spelled) (refl, (refl, within_limits l.pieces ms l.read));
       };
     }

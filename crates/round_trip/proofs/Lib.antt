@@ -1,4 +1,5 @@
 mod Laid
+mod Fenced
 mod Lexed
 mod Digits
 mod Parts
@@ -6,8 +7,9 @@ mod Lists
 mod Written
 mod Statements
 mod Fits
+mod Short
 mod StatementTexts
-mod Facts
+mod RightFences
 mod ProgramText
 mod Means
 mod MeaningRead
@@ -20,4 +22,5 @@ mod Functions
 mod FunctionMeaning
 mod FunctionFaults
 mod Threads
-pub mod Whole
+mod Whole
+pub mod Callers

@@ -16,12 +16,12 @@ use Rattle.il_grammar.specs.declared.syntax.RawAtom.{RawAtom}
 use Rattle.il_grammar.specs.declared.syntax.RawAtom.TheVariants.{Constant, Named}
 use Rattle.il_grammar.specs.declared.syntax.RawUpdate.TheVariants.{Add as Adding, Swap as Swapping}
 use Rattle.il_grammar.specs.Name.{name_text}
-use Rattle.il_grammar.specs.Grammar.{Snoc, empty, append, Simple, skip, store, print, copy, compute, load, update, cas, call, Tree, simply, choice, choice_else, repeat, Trees, no_tree, add_tree}
+use Rattle.il_grammar.specs.Grammar.{Snoc, empty, append, Simple, skip, store, fence, print, copy, compute, load, update, cas, call, Tree, simply, choice, choice_else, repeat, Trees, no_tree, add_tree}
 use Rattle.il_grammar.specs.Mapped.{snoc_map, atom_map, simple_map, tree_map, trees_map}
 use Rattle.il_names.specs.Known.{Known, number_of, snoc_length}
 use Rattle.il_names.specs.Meaning.{block, choice_meaning, atom_meaning, atoms_meaning, simple_meaning, tree_meaning, trees_meaning}
-use Rattle.il_names.specs.Faults.{unless, count, count_all, too_many_statements, register_faults, atom_faults, na_faults, atomic_faults, arity_faults, function_faults, atoms_faults, simple_faults, tree_faults, trees_faults}
-use Rattle.il_names.proofs.Lists.{none_in_both, none_in_three, none_in_four, none_in_five}
+use Rattle.il_names.specs.Faults.{unless, count, count_all, too_many_statements, register_faults, atom_faults, na_faults, atomic_faults, arity_faults, function_faults, atoms_faults, fence_order_faults, simple_faults, tree_faults, trees_faults}
+use Rattle.il_names.proofs.Callers.{none_in_both, none_in_three, none_in_four, none_in_five}
 use Rattle.round_trip.proofs.Means.{AtomMeans, AtomsMean, SimpleMeans, TreeMeans, TreesMean}
 
 -- a map changes no length
@@ -76,6 +76,7 @@ module _ (bytes : List ℕ) (known : Known) where
   simple_is (skip w) s e = sym e
   simple_is (store w None x a) s (v, value, (i, is, e)) = (λ j. stmt.Store (number_is known.na x i is j) (atom_is a v value j)) ∙ sym e
   simple_is (store w (Some o) y a) s (v, value, (i, is, allowed, e)) = (λ j. stmt.AtomicStore o.order (number_is known.atomic y i is j) (atom_is a v value j)) ∙ sym e
+  simple_is (fence w o) s (allowed, e) = sym e
   simple_is (print w a) s (v, value, e) = ap stmt.Print (atom_is a v value) ∙ sym e
   simple_is (copy n a) s (r, v, is, value, e) = (λ j. stmt.Copy (number_is known.registers n r is j) (atom_is a v value j)) ∙ sym e
   simple_is (compute n a op b) s (r, v, w, is, one, other, e) = (λ j. stmt.Compute (number_is known.registers n r is j) op (atom_is a v one j) (atom_is b w other j)) ∙ sym e
@@ -96,6 +97,8 @@ module _ (bytes : List ℕ) (known : Known) where
       none_in_both (too_many_statements before w.start) _ (room before w.start low) (none_in_both (na_faults bytes known x) (atom_faults bytes known a) (known_name known.na x i _ is) (atom_faultless a v value))
   simple_faultless (store w (Some o) y a) s before (v, value, (i, is, allowed, e)) low =
       none_in_four (too_many_statements before w.start) _ (atomic_faults bytes known y) (atom_faults bytes known a) (room before w.start low) (passes C5 o.word.start allowed) (known_name known.atomic y i _ is) (atom_faultless a v value)
+  simple_faultless (fence w o) s before (allowed, e) low =
+      none_in_both (too_many_statements before w.start) (fence_order_faults o) (room before w.start low) (passes C5 o.word.start allowed)
   simple_faultless (print w a) s before (v, value, e) low =
       none_in_both (too_many_statements before w.start) (atom_faults bytes known a) (room before w.start low) (atom_faultless a v value)
   simple_faultless (copy n a) s before (r, v, is, value, e) low =

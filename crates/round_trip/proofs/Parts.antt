@@ -19,9 +19,9 @@ use Rattle.il_grammar.specs.declared.terminal.Terminal.TheVariants as t
 use Rattle.il_grammar.specs.declared.syntax.RawOrder.{RawOrder}
 use Rattle.il_grammar.specs.Grammar.{Marks, number_up_to, open_at, name, order}
 use Rattle.il_grammar.specs.Mapped.{terminal_map}
-use Rattle.il_reader.proofs.Words.{other_word_is_a_name}
+use Rattle.il_reader.proofs.Callers.{other_word_is_a_name}
 use Rattle.round_trip.proofs.Digits.{decimal_lexeme, decimal_value}
-use Rattle.round_trip.proofs.Laid.{IsRead, Laid, blank, token}
+use Rattle.round_trip.proofs.Laid.{IsRead, without_fence, Laid, blank, token}
 
 -- what is read before the marks that are given to it
 abbrev pub Spelling : Type 0
@@ -93,7 +93,7 @@ word_apart : (text rest : List ℕ) → Stops rest → IsSeparated Word text res
 word_apart text [] stops = tt
 word_apart text (c ∷ rest) stops = stops
 
-pub word : (text : List ℕ) {x : Terminal (List ℕ)} → is_lexeme Word text ≡ true → IsRead Word text x → Open text (λ ms. plain x ∷ ms)
+pub word : (text : List ℕ) {x : Terminal (List ℕ)} → is_lexeme Word text ≡ true → IsRead Word text (without_fence x) → Open text (λ ms. plain x ∷ ms)
 word text lexeme read = record { lay = λ rest ms stops l. token Word text lexeme (word_apart text rest stops) read refl l }
 
 name_word : (text : List ℕ) → is_word text ≡ true → is_lexeme Word text ≡ true
@@ -134,7 +134,7 @@ alone_apart : (b : ℕ) (rest : List ℕ) → IsAlone b → IsSeparated Symbol (
 alone_apart b [] alone = tt
 alone_apart b (c ∷ rest) alone = and_right (c == 61) (b == 61 || (b == 33 || b == 60)) alone
 
-sign : (b : ℕ) {x : Terminal (List ℕ)} → is_lexeme Symbol (b ∷ []) ≡ true → IsAlone b → IsRead Symbol (b ∷ []) x → Closed (b ∷ []) (λ ms. plain x ∷ ms)
+sign : (b : ℕ) {x : Terminal (List ℕ)} → is_lexeme Symbol (b ∷ []) ≡ true → IsAlone b → IsRead Symbol (b ∷ []) (without_fence x) → Closed (b ∷ []) (λ ms. plain x ∷ ms)
 sign b lexeme alone read = record { lay = λ rest ms l. token Symbol (b ∷ []) lexeme (alone_apart b rest alone) read refl l }
 
 pub left_paren : Closed (codes "(") (λ ms. plain t.LeftParen ∷ ms)
@@ -227,3 +227,10 @@ order_word Rlx = word (codes "rlx") refl (λ f span e. ap (t.OrderWord Rlx) e)
 order_word Acq = word (codes "acq") refl (λ f span e. ap (t.OrderWord Acq) e)
 order_word Rel = word (codes "rel") refl (λ f span e. ap (t.OrderWord Rel) e)
 order_word AcqRel = word (codes "acqrel") refl (λ f span e. ap (t.OrderWord AcqRel) e)
+
+-- the order of a fence
+pub fence_order_word : (o : Order) → Open (order_text o) (λ ms. plain (t.FenceOrder o (order_text o)) ∷ ms)
+fence_order_word Rlx = word (codes "rlx") refl (λ f span e. ap (t.OrderWord Rlx) e)
+fence_order_word Acq = word (codes "acq") refl (λ f span e. ap (t.OrderWord Acq) e)
+fence_order_word Rel = word (codes "rel") refl (λ f span e. ap (t.OrderWord Rel) e)
+fence_order_word AcqRel = word (codes "acqrel") refl (λ f span e. ap (t.OrderWord AcqRel) e)

@@ -1,17 +1,17 @@
 -- The canonical text of a well-formed program is written as its tree.
-use Rattle.std.proofs.Common.{◌≡◌, ℕ, List, [], ◌∷◌, ◌++◌, length, map, take, drop, Bool, true, false, nat_lt, refl, sym, ap, ◌∙◌, subst, append_assoc}
+use Rattle.std.proofs.Common.{◌≡◌, ℕ, List, [], ◌∷◌, ◌++◌, length, map, take, drop, Bool, true, false, not, cond, nat_lt, refl, sym, ap, ◌∙◌, subst, append_assoc}
 use Rattle.std.specs.Prelude.{codes, ℤ}
 use Rattle.std.specs.List.{list_all, flat_map}
 use Rattle.std.specs.Fmt.{signed_decimal}
 use Rattle.std.proofs.lemmas.Bool.{and_parts}
 use Rattle.std.proofs.lemmas.List.{map-id, take-append-drop, append-nil, length-map}
-use Rattle.token_machine.specs.Text.{plain}
+use Rattle.token_machine.specs.Text.{plain, tokens_of}
 use Rattle.il_syntax.specs.declared.program.Function.{Function}
 use Rattle.il_syntax.specs.declared.program.Location.{Location}
 use Rattle.il_syntax.specs.declared.program.Start.{Start}
 use Rattle.il_syntax.specs.declared.program.Program.{Program}
 use Rattle.il_syntax.specs.Name.{is_name}
-use Rattle.il_syntax.specs.Text.{listed as listed_text, registers_text, location_text, function_text, thread_text, program_text}
+use Rattle.il_syntax.specs.Text.{line, listed as listed_text, registers_text, location_text, function_text, thread_text, program_text}
 use Rattle.il_syntax.specs.WellFormed.{declared_by, params_of, is_signed_64, thread_numbers_exist, thread_arity_agrees}
 use Rattle.il_syntax.specs.Checks.{function_fits, thread_fits, values_fit}
 use Rattle.il_grammar.specs.declared.terminal.Terminal.{Terminal}
@@ -21,13 +21,16 @@ use Rattle.il_grammar.specs.Reading.{snoc}
 use Rattle.il_grammar.specs.Grammar.{empty}
 use Rattle.il_reader.specs.Text.{WritesNamed}
 use Rattle.round_trip.proofs.Laid.{Laid, ended, blank}
-use Rattle.round_trip.proofs.Lexed.{written}
+use Rattle.round_trip.proofs.Lexed.{is_fence_text, written}
+use Rattle.round_trip.proofs.Fenced.{StandRight, text_right}
+use Rattle.round_trip.proofs.RightFences.{tree_right}
+use Rattle.il_syntax.specs.Fences.{has_no_fence}
 use Rattle.round_trip.proofs.Parts.{Spelling, Stops, Closed, Open, closed_closed, closed_open, open_closed, closed_as, nothing, space, on_line, word, named, left_paren, right_paren, open_brace, close_brace, semicolon, equals}
 use Rattle.round_trip.proofs.Lists.{all, AllOpen, AllClosed, closed_all, closed_listed, all_each, some_registers}
 use Rattle.round_trip.proofs.Written.{written_number, written_location, written_function, written_thread, written_locations, written_tree}
 use Rattle.round_trip.proofs.Fits.{all_in_both}
 use Rattle.round_trip.proofs.StatementTexts.{number_text, name_text, HasNames, atom_part, statements_text_read}
-use Rattle.round_trip.proofs.Facts.{Facts, FunctionFacts, function_facts, declarable_names, free_names}
+use Rattle.il_syntax.proofs.Callers.{WellFormedFacts, FunctionFacts, function_facts, declarable_names, free_names}
 
 -- names with commas between them
 
@@ -70,7 +73,7 @@ registers_read (x ∷ xs) e =
     closed_as (some_registers x xs)
     (on_line 1 (around (listed_text (x ∷ xs)) (codes ";") (spaced (codes "reg") (word (codes "reg") refl (λ f span e. refl))) (names_listed (x ∷ xs) e refl semicolon)))
 
-module _ (p : Program) (facts : Facts p) where
+module _ (p : Program) (facts : WellFormedFacts p) where
   has_names : (registers : List (List ℕ)) → list_all is_name registers ≡ true → HasNames p registers
   has_names registers e = record {
     registers_named = e;
@@ -142,7 +145,12 @@ spelled p =
     ∙ sym locations
     ∙ all_append location (map (written_location false) p.na) (map (written_location true) p.atomic) later)
 
-pub text_is_written : (p : Program) → Facts p → WritesNamed (program_text p) (written_tree p)
+by_header : (p : Program) (none : Bool) → has_no_fence p ≡ none → (rest : List ℕ) → Laid (10 ∷ rest) (after_header p) → ((none : Bool) → has_no_fence p ≡ none → StandRight (is_fence_text (not none)) false (tokens_of (after_header p)))
+    → WritesNamed (line 0 (cond none (codes "il 1") (codes "il 2")) ++ rest) (written_tree p)
+by_header p true e rest laid right = written false rest (after_header p) (written_tree p) (spelled p) laid (right true e)
+by_header p false e rest laid right = written true rest (after_header p) (written_tree p) (spelled p) laid (right false e)
+
+pub text_is_written : (p : Program) → WellFormedFacts p → WritesNamed (program_text p) (written_tree p)
 unfolding program_text
 text_is_written p facts =
     let na = flat_map (location_text (codes "na")) p.na in
@@ -157,4 +165,10 @@ text_is_written p facts =
     closed_closed (closed_closed (closed_closed (closed_all (location_text (codes "na")) (written_location false) location p.na na_read) (closed_all (location_text (codes "atomic")) (written_location true) location p.atomic atomic_read))
     (closed_all (function_text p) (written_function p) function p.functions functions_there)) (closed_all (thread_text p) (written_thread p) thread p.threads threads_there) in
     let laid : Laid (na ++ atomic ++ functions ++ threads) (after_header p) = subst (λ bytes. Laid bytes (after_header p)) (append-nil (na ++ atomic ++ functions ++ threads)) (whole.lay [] [] ended) in
-    written (na ++ atomic ++ functions ++ threads) (after_header p) (written_tree p) (spelled p) (blank refl laid)
+    let right : (none : Bool) → has_no_fence p ≡ none → StandRight (is_fence_text (not none)) false (tokens_of (after_header p)) =
+    λ none e. (subst (λ ms. StandRight (is_fence_text (not none)) false (tokens_of ms)) (spelled p) (text_right (is_fence_text (not none)) (written_tree p) (tree_right p none e facts))).1.1 in
+    let head : List ℕ = line 0 (cond (has_no_fence p) (codes "il 1") (codes "il 2")) in
+    let same : head ++ (na ++ atomic ++ functions ++ threads) ≡ head ++ na ++ atomic ++ functions ++ threads =
+    sym (append_assoc head (na ++ atomic ++ functions) threads)
+    ∙ ap (λ (x : List ℕ). x ++ threads) (sym (append_assoc head (na ++ atomic) functions) ∙ ap (λ (x : List ℕ). x ++ functions) (sym (append_assoc head na atomic))) in
+    subst (λ bytes. WritesNamed bytes (written_tree p)) same (by_header p (has_no_fence p) refl (na ++ atomic ++ functions ++ threads) (blank refl laid) right)

@@ -11,8 +11,8 @@ use Rattle.il_syntax.specs.declared.statement.Rmw.{Rmw}
 use Rattle.il_syntax.specs.declared.statement.Rmw.TheVariants as kinds
 use Rattle.il_syntax.specs.declared.statement.Stmt.{Stmt}
 use Rattle.il_syntax.specs.declared.statement.Block.{Block}
-use Rattle.il_syntax.specs.declared.statement.Stmt.TheOpen.{Stmt-F, Skip, Copy, Compute, Load, Store, AtomicLoad, AtomicStore, Update, Print, If, While, Call}
-use Rattle.il_syntax.specs.declared.statement.Stmt.TheVariants.{rolls-Skip, rolls-Copy, rolls-Compute, rolls-Load, rolls-Store, rolls-AtomicLoad, rolls-AtomicStore, rolls-Update, rolls-Print, rolls-If, rolls-While, rolls-Call}
+use Rattle.il_syntax.specs.declared.statement.Stmt.TheOpen.{Stmt-F, Skip, Copy, Compute, Load, Store, AtomicLoad, AtomicStore, Update, Fence, Print, If, While, Call}
+use Rattle.il_syntax.specs.declared.statement.Stmt.TheVariants.{rolls-Skip, rolls-Copy, rolls-Compute, rolls-Load, rolls-Store, rolls-AtomicLoad, rolls-AtomicStore, rolls-Update, rolls-Fence, rolls-Print, rolls-If, rolls-While, rolls-Call}
 use Rattle.il_syntax.specs.declared.statement.Stmt.TheViews.{roll-Stmt}
 use Rattle.il_syntax.specs.declared.statement.Stmt.TheFolds.{fold-Block, fold-roll-Stmt, map-Stmt}
 use Rattle.il_syntax.specs.declared.program.Program.{Program}
@@ -25,7 +25,7 @@ use Rattle.il_grammar.specs.Grammar.{Snoc, empty, append, Tree, Trees, no_tree, 
 use Rattle.il_grammar.specs.Reading.{snoc, snoc_from}
 use Rattle.il_names.specs.Known.{Known, number_of, snoc_length}
 use Rattle.il_names.specs.Meaning.{literal_value, negated, choice_meaning}
-use Rattle.il_names.proofs.Walking.{snoc_length_snoc}
+use Rattle.il_names.proofs.Callers.{snoc_length_snoc}
 use Rattle.round_trip.proofs.Lists.{in_order, block}
 use Rattle.round_trip.proofs.Written.{written_number, written_atom, written_update, written_choice, written_step, written_block, written_statement}
 use Rattle.round_trip.proofs.Statements.{fold_block, Each, Known as KnownOf, KnownBlock, known as known_layer, by_blocks, each_holds}
@@ -239,6 +239,7 @@ module _ (p : Program) (registers : List (List ℕ)) (names : NamesApart p regis
         let parts = and_parts (nat_lt r (length registers)) (operands_exist (length registers) kind) own.numbers in
         (update_means r o y kind parts.0 own.atomic_location parts.1, refl);
   }
+  meant_layer (Fence o) = record { means = λ e. (((own_fits (Fence o) [] e).order, rolls-Fence o), refl) }
   meant_layer (Print a) = record { means = λ e. ((a, atom_means a (own_fits (Print a) [] e).numbers, rolls-Print a), refl) }
   meant_layer (If a one other) =
       subst (λ q. IfMeant a one.0 other.0 q (folded other.0)) (mapped_folded one.0)

@@ -13,19 +13,19 @@ use Rattle.il_syntax.specs.declared.statement.Rmw.{Rmw}
 use Rattle.il_syntax.specs.declared.statement.Rmw.TheVariants as kinds
 use Rattle.il_syntax.specs.declared.statement.Stmt.{Stmt}
 use Rattle.il_syntax.specs.declared.statement.Block.{Block}
-use Rattle.il_syntax.specs.declared.statement.Stmt.TheOpen.{Stmt-F, Skip, Copy, Compute, Load, Store, AtomicLoad, AtomicStore, Update, Print, If, While, Call}
+use Rattle.il_syntax.specs.declared.statement.Stmt.TheOpen.{Stmt-F, Skip, Copy, Compute, Load, Store, AtomicLoad, AtomicStore, Update, Fence, Print, If, While, Call}
 use Rattle.il_syntax.specs.declared.statement.Stmt.TheViews.{roll-Stmt}
 use Rattle.il_syntax.specs.declared.statement.Stmt.TheFolds.{fold-Block, fold-roll-Stmt, map-Stmt}
 use Rattle.il_syntax.specs.declared.program.Program.{Program}
 use Rattle.il_syntax.specs.Name.{is_name}
 use Rattle.il_syntax.specs.Statements.{Head, heads_step, heads_block, heads_of, heads_of_all, depth_step, depth_block, depth_of, depth_of_all}
-use Rattle.il_syntax.specs.Text.{register_name, location_name, function_name, name_or_empty, atom_text, op_text, compute_text, update_text, call_text, assignment, Lines, all_at, else_text, line, listed as listed_text, statement_step, block_step, statement_text}
+use Rattle.il_syntax.specs.Text.{register_name, location_name, function_name, name_or_empty, atom_text, op_text, compute_text, update_text, call_text, assignment, Lines, all_at, else_text, line, listed as listed_text, statement_text_step, block_text_step, statement_text}
 use Rattle.il_syntax.specs.WellFormed.{is_signed_64, atom_exists, operands_exist}
 use Rattle.il_syntax.specs.Checks.{head_fits}
 use Rattle.il_grammar.specs.declared.terminal.Terminal.TheVariants as t
 use Rattle.il_grammar.specs.Grammar.{Tree, no_tree, literal, name, atom, open_at, simple, repeat, statement, statements, listed_if_any}
 use Rattle.il_grammar.specs.Reading.{snoc}
-use Rattle.round_trip.proofs.Parts.{Spelling, Closed, Open, closed_closed, closed_open, open_closed, closed_as, as_open, nothing, space, on_line, word, named, number, left_paren, right_paren, block_brace, close_brace, comma, semicolon, minus, equals, operator, order_word}
+use Rattle.round_trip.proofs.Parts.{Spelling, Closed, Open, closed_closed, closed_open, open_closed, closed_as, as_open, nothing, space, on_line, word, named, number, left_paren, right_paren, block_brace, close_brace, comma, semicolon, minus, equals, operator, order_word, fence_order_word}
 use Rattle.round_trip.proofs.Lists.{block, all, AllOpen, closed_listed, all_statements}
 use Rattle.round_trip.proofs.Written.{written_number, written_atom, written_update, written_choice, written_step, written_block, written_statement}
 use Rattle.round_trip.proofs.Statements.{fold_block, Each, Known, KnownBlock, known, by_blocks, each_holds}
@@ -131,7 +131,7 @@ module _ (p : Program) (registers : List (List ℕ)) (params : List ℕ) (names 
     part : (k depth : ℕ) → depth + deep ≤ 32 → list_all fits heads ≡ true → Closed (text k) (statement tree depth)
 
   abbrev text_block : Block → List Lines
-  text_block = fold-Block Lines (List Lines) (statement_step p registers) block_step
+  text_block = fold-Block Lines (List Lines) (statement_text_step p registers) block_text_step
 
   abbrev tree_block : Block → List (Tree (List ℕ))
   tree_block = fold-Block (Tree (List ℕ)) (List (Tree (List ℕ))) (written_step p registers) written_block
@@ -141,7 +141,7 @@ module _ (p : Program) (registers : List (List ℕ)) (params : List ℕ) (names 
 
   abbrev IsRightLayer : Stmt-F Stmt Block → Type 0
   IsRightLayer x = IsRight
-      (statement_step p registers (map-Stmt Stmt Block Lines (List Lines) (statement_text p registers) text_block x))
+      (statement_text_step p registers (map-Stmt Stmt Block Lines (List Lines) (statement_text p registers) text_block x))
       (written_step p registers (map-Stmt Stmt Block (Tree (List ℕ)) (List (Tree (List ℕ))) (written_statement p registers) tree_block x))
       (heads_step (map-Stmt Stmt Block (List Head) (List Head) heads_of (fold-Block (List Head) (List Head) heads_step heads_block) x))
       (depth_step (map-Stmt Stmt Block ℕ ℕ depth_of (fold-Block ℕ ℕ depth_step depth_block) x))
@@ -149,7 +149,7 @@ module _ (p : Program) (registers : List (List ℕ)) (params : List ℕ) (names 
   rolled : (x : Stmt-F Stmt Block) → IsRightLayer x → Right (roll-Stmt x)
   rolled x right = subst (λ (q : Lines × Tree (List ℕ) × List Head × ℕ). IsRight q.0 q.1 q.2 q.3)
       (λ i. (
-        sym (fold-roll-Stmt Lines (List Lines) (statement_step p registers) block_step x) i,
+        sym (fold-roll-Stmt Lines (List Lines) (statement_text_step p registers) block_text_step x) i,
         sym (fold-roll-Stmt (Tree (List ℕ)) (List (Tree (List ℕ))) (written_step p registers) written_block x) i,
         sym (fold-roll-Stmt (List Head) (List Head) heads_step heads_block x) i,
         sym (fold-roll-Stmt ℕ ℕ depth_step depth_block x) i,
@@ -226,17 +226,17 @@ module _ (p : Program) (registers : List (List ℕ)) (params : List ℕ) (names 
 
   mapped_folded : (b : Block) → mapped b ≡ folded b
   mapped_folded b = λ i. (
-    sym (fold_block (statement_step p registers) block_step b) i,
+    sym (fold_block (statement_text_step p registers) block_text_step b) i,
     sym (fold_block (written_step p registers) written_block b) i,
     sym (fold_block heads_step heads_block b) i,
     sym (fold_block depth_step depth_block b) i,
   )
 
   abbrev IfRight : Atom → Inner → Inner → Type 0
-  IfRight a one other = IsRight (statement_step p registers (If a one.0 other.0)) (written_step p registers (If a one.1 other.1)) (heads_step (If a one.2 other.2)) (depth_step (If a one.3 other.3))
+  IfRight a one other = IsRight (statement_text_step p registers (If a one.0 other.0)) (written_step p registers (If a one.1 other.1)) (heads_step (If a one.2 other.2)) (depth_step (If a one.3 other.3))
 
   abbrev WhileRight : Atom → Inner → Type 0
-  WhileRight a body = IsRight (statement_step p registers (While a body.0)) (written_step p registers (While a body.1)) (heads_step (While a body.2)) (depth_step (While a body.3))
+  WhileRight a body = IsRight (statement_text_step p registers (While a body.0)) (written_step p registers (While a body.1)) (heads_step (While a body.2)) (depth_step (While a body.3))
 
   right_layer : (y : Stmt-F (Known Right) (KnownBlock Right)) → IsRightLayer (known Right y)
   right_layer Skip = record { part = λ k depth low fit. on_line k (open_closed (word (codes "skip") refl (λ f span e. ap t.Skip e)) refl semicolon) }
@@ -275,6 +275,9 @@ module _ (p : Program) (registers : List (List ℕ)) (params : List ℕ) (names 
         let own = own_fits (Update r o y kind) [] fit in
         let parts = and_parts (nat_lt r (length registers)) (operands_exist (length registers) kind) own.numbers in
         updated k r o y kind parts.0 own.atomic_location parts.1;
+  }
+  right_layer (Fence o) = record {
+    part = λ k depth low fit. on_line k (open_closed (closed_open (open_closed (word (codes "fence") refl (λ f span e. ap t.Name e)) refl space) (fence_order_word o)) refl semicolon);
   }
   right_layer (Print a) = record {
     part = λ k depth low fit.

@@ -3,7 +3,6 @@
 #![tactic(auto)]
 
 use sq_outside::{StdSink, StdSource};
-use std::alloc::Global;
 use std::env::{self, Env};
 use std::io::{self, ErrorKind};
 use std::process::ExitCode;
@@ -28,17 +27,14 @@ fn words<R: Env + AllocGlobal>(rt: &R) -> Result<Words, Status> {
     Ok(Words { words })
 }
 
-fn run(rt: &HostRuntime, alloc: Global) -> Status {
-    match words(rt) {
+fn main(rt: HostRuntime) -> ExitCode {
+    let status = match words(&rt) {
         Ok(words) => {
             let mut input = StdSource::new(rt.stdin());
             let mut output = StdSink::new(rt.stdout());
-            seqopt(alloc, rt, &words, &mut input, &mut output)
+            seqopt(rt.alloc(), &rt, &words, &mut input, &mut output)
         }
         Err(status) => status,
-    }
-}
-
-fn main(rt: HostRuntime) -> ExitCode {
-    ExitCode::from(run(&rt, rt.alloc()).number())
+    };
+    ExitCode::from(status.number())
 }

@@ -55,7 +55,7 @@ impl MemSource {
 }
 
 // Copies as much as there is and fits, up to a piece, and says how much.
-fn copy_prefix(from: &[u8], piece: usize, into: &mut [u8]) -> usize
+pub(crate) fn copy_prefix(from: &[u8], piece: usize, into: &mut [u8]) -> usize
     ensures count { result ≡ min piece (min (length from.now) (length into.old)) }
     ensures copied { into.new ≡ take result from.now ++ drop result into.old }
 {

@@ -1,3 +1,9 @@
 pub mod Placing
 pub mod Keeping
 pub mod WellFormedProper
+pub mod EachHead
+pub mod Paths
+pub mod Depths
+pub mod Asking
+pub mod Silent
+pub mod Callers

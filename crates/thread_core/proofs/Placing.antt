@@ -1,29 +1,29 @@
 -- Positions of a program.
-use Rattle.std.proofs.Common.{◌≡◌, ℕ, zero, suc, ◌≤◌, ◌<◌, Bool, Some, Option, List, [], ◌∷◌, length, map, arith, sym, ap, subst, ◌∙◌, slice_get, IsSomeAnd, IfOk, Result, Ok, Err}
+use Rattle.std.proofs.Common.{◌≡◌, ℕ, zero, suc, ◌≤◌, Some, Option, List, [], ◌∷◌, length, map, arith, refl, sym, ap, subst, ◌∙◌, slice_get, None, MatchOption, IfSome, IsSomeAnd, IfOk, Result, Ok, Err}
 use Rattle.std.specs.List.{AllByRecursion}
-use Rattle.std.specs.Option.{option_map}
-use Rattle.std.proofs.lemmas.Option.{slice_get-map}
 use Rattle.values_undef.specs.declared.value.Val.{Val}
 use Rattle.il_syntax.specs.declared.statement.Atom.{Atom}
 use Rattle.il_syntax.specs.declared.statement.Atom.TheVariants.{Const, Reg}
 use Rattle.il_syntax.specs.declared.statement.Rmw.{Rmw}
 use Rattle.il_syntax.specs.declared.statement.Rmw.TheVariants as rmw
-use Rattle.il_syntax.specs.declared.statement.Stmt.TheOpen.{Skip, Copy, Compute, Load, Store, AtomicLoad, AtomicStore, Update, Print, If, While, Call}
+use Rattle.il_syntax.specs.declared.statement.Stmt.TheOpen.{Skip, Copy, Compute, Load, Store, AtomicLoad, AtomicStore, Update, Fence, Print, If, While, Call}
 use Rattle.il_syntax.specs.declared.program.Function.{Function}
 use Rattle.il_syntax.specs.declared.program.Program.{Program}
 use Rattle.il_syntax.specs.declared.statement.Stmt.{Stmt}
-use Rattle.il_syntax.specs.Statements.{Head, head_of, statements_in, site_count}
-use Rattle.il_syntax.proofs.Inner.{heads_of_statements}
-use Rattle.il_paths.specs.Tree.{tree_of, sites_of}
-use Rattle.il_paths.specs.Code.{Code, End, first_head, go}
-use Rattle.il_paths.specs.Sites.{rest_from, next_site}
-use Rattle.il_paths.proofs.Resuming.{at_first, goes_on_in, behind_all, next_bound, heads_next}
+use Rattle.il_syntax.specs.Statements.{Head, head_of}
+use Rattle.il_paths.specs.Tree.{Tree, Empty, Then, IfThen, WhileThen, before_rest, tree_of}
+use Rattle.il_paths.specs.Code.{Code, End, placed, join, first_head, AllHeads}
+use Rattle.il_paths.proofs.Resuming.{at_first, first_of, all_placed, all_first}
 use Rattle.il_paths.proofs.Running.{join-end}
-use Rattle.il_paths.proofs.HeadsInOrder.{sites_agree, heads_at_sites}
-use Rattle.thread_core.specs.Programs.{function_at, body_in, body_of, code_of, IsProperAtom, IsProperUpdate, IsProperHead, IsProperFunction, IsProperProgram}
+use Rattle.thread_core.specs.Programs.{function_at, body_of, code_of, IsProperAtom, IsProperUpdate, IsProperHead, IsProperFunction, IsProperProgram}
 use Rattle.thread_core.specs.declared.position.Position.{Position}
 use Rattle.thread_core.specs.Frames.{Frame, Stack, evaluated, loaded, blank, begun, advanced_at, advanced}
-use Rattle.thread_core.specs.Steps.{Positions, frame_in, stack_in, entered}
+use Rattle.thread_core.specs.declared.path.Side.{Side}
+use Rattle.thread_core.specs.declared.path.Side.TheVariants.{Yes, No, Body}
+use Rattle.thread_core.specs.declared.path.Outer.{Outer}
+use Rattle.thread_core.specs.declared.path.Path.{Path}
+use Rattle.thread_core.specs.Path.{tail_of, width, tree_from, inner_block, statements_at, site_at, rest_at, standing, standing_of, IsLeft, way, tree_at, site_of, continuation_of, IsPlace}
+use Rattle.thread_core.specs.Steps.{Positions, frame_in, stack_in, entered, first_path}
 
 -- what each has, the one that is got has
 pub all_got : {X : Type 0} (P : X → Type 0) (xs : List X) (i : ℕ) (x : X) → AllByRecursion P xs → slice_get xs i ≡ Some x → P x
@@ -37,41 +37,68 @@ function_proper p f g h e = all_got (IsProperFunction p) p.functions f g h.funct
 pub some_and : {X : Type 0} (o : Option X) (x : X) (P : X → Type 0) → o ≡ Some x → P x → IsSomeAnd o P
 some_and o x P e h = subst (λ q. IsSomeAnd q P) (sym e) h
 
+pub some_of_match : {X : Type 0} (o : Option X) (N : Type 0) (P Q : X → Type 0) → ((x : X) → P x → Q x) → MatchOption o N P → IfSome o Q
+some_of_match None N P Q f h = tt
+some_of_match (Some x) N P Q f h = f x h
+
 pub some_at : {X : Type 0} (o : Option X) (x : X) (P : X → Type 0) → o ≡ Some x → IsSomeAnd o P → P x
 some_at o x P e h = subst (λ q. IsSomeAnd q P) e h
 
-pub goes_on_at : (p : Program) (f : ℕ) (g : Function) (site next end : ℕ) (holds : Bool) → function_at p f ≡ Some g → end ≡ sites_of (tree_of g.body) → next ≡ next_site 0 (tree_of g.body) site holds end → site < end → rest_from 0 (body_of p f) next End ≡ go (rest_from 0 (body_of p f) site End) holds
-goes_on_at p f g site next end holds e n s l =
-    let b : body_of p f ≡ tree_of g.body = ap body_in e in
-    ap (λ t. rest_from 0 t next End) b
-    ∙ ap (λ i. rest_from 0 (tree_of g.body) i End) (s ∙ ap (next_site 0 (tree_of g.body) site holds) n)
-    ∙ goes_on_in (tree_of g.body) site holds (omega (arith, n, l))
-    ∙ sym (ap (λ t. go (rest_from 0 t site End) holds) b)
+-- the statement at a place is the next one of what is still to do from there on
+pub head_stands : (root : Tree) (path : Path) (s : Stmt) (rest : Tree) → tree_at root path ≡ before_rest s rest → first_head (continuation_of root path) ≡ Some (head_of s)
+head_stands root path s rest e =
+    let at = standing_of root path in
+    let n = site_of root path in
+    ap (λ (t : Tree). first_head (join (placed n t) at.after)) e
+    ∙ ap first_head (sym (at_first n (before_rest s rest) at.after))
+    ∙ first_of s n rest at.after
 
-pub ends_at : (p : Program) (f : ℕ) (g : Function) (site end : ℕ) → function_at p f ≡ Some g → end ≡ sites_of (tree_of g.body) → end ≤ site → rest_from 0 (body_of p f) site End ≡ End
-ends_at p f g site end e n l =
-    let b : body_of p f ≡ tree_of g.body = ap body_in e in
-    ap (λ t. rest_from 0 t site End) b ∙ behind_all 0 (tree_of g.body) site End (omega (arith, n, l))
+-- at the end nothing is left to do
+pub ends_at : (root : Tree) (path : Path) → IsPlace root path → tree_at root path ≡ Empty → continuation_of root path ≡ End
+ends_at root path h e = nothing (way path) path.left path.index h.left e
+  where
+    nothing : (outer : List Outer) (left i : ℕ) → IsLeft outer left (statements_at (standing root outer) i) → statements_at (standing root outer) i ≡ Empty → rest_at (standing root outer) i ≡ End
+    nothing [] left i h e = ap (λ (t : Tree). join (placed (site_at (standing root []) i) t) End) e
+    nothing (o ∷ outer) left i h e = absurd (omega (arith, h, ap width e))
 
-pub stays_at : (p : Program) (f : ℕ) (g : Function) (site next end : ℕ) (holds : Bool) → end ≡ sites_of (tree_of g.body) → next ≡ next_site 0 (tree_of g.body) site holds end → next ≤ sites_of (tree_of g.body)
-stays_at p f g site next end holds n s =
-    let h = next_bound 0 (tree_of g.body) site holds end (sites_of (tree_of g.body)) (omega arith) (omega (arith, n)) in omega (arith, h, s)
+-- what each statement of a tree is, that of a block of it is
+tail_heads : (P : Head → Type 0) (t : Tree) → AllHeads P t → AllHeads P (tail_of t)
+tail_heads P Empty h = h
+tail_heads P (Then leaf rest) h = h.1
+tail_heads P (IfThen a one other rest) h = h.3
+tail_heads P (WhileThen a body rest) h = h.2
 
--- the statement at a site is the next one of what is still to do from there on
-pub head_stands : (g : Function) (site : ℕ) (s : Stmt) → site < site_count g.body.statements → slice_get (statements_in g.body.statements) site ≡ Some s
-    → first_head (rest_from 0 (tree_of g.body) site End) ≡ Some (head_of s)
-head_stands g site s l e =
-    let same = sites_agree g.body in
-    heads_at_sites g.body site (omega (arith, l, same))
-    ∙ ap (λ hs. slice_get hs site) (sym (heads_of_statements g.body.statements))
-    ∙ slice_get-map head_of (statements_in g.body.statements) site
-    ∙ ap (option_map head_of) e
+from_heads : (P : Head → Type 0) (i : ℕ) (t : Tree) → AllHeads P t → AllHeads P (tree_from i t)
+from_heads P zero t h = h
+from_heads P (suc i) t h = tail_heads P (tree_from i t) (from_heads P i t h)
 
--- the next statement of a position is proper
-pub head_proper : (p : Program) (f : ℕ) (g : Function) (site : ℕ) (h : Head) → IsProperProgram p → function_at p f ≡ Some g → site < sites_of (tree_of g.body) → first_head (rest_from 0 (tree_of g.body) site End) ≡ Some h → IsProperHead p (length g.registers) h
-head_proper p f g site h ok e l n =
-    let fine = function_proper p f g ok e in
-    heads_next (IsProperHead p (length g.registers)) 0 (tree_of g.body) site End h fine.heads (omega arith) (omega (arith, l)) n
+inner_heads : (P : Head → Type 0) (side : Side) (t : Tree) → AllHeads P t → AllHeads P (inner_block side t)
+inner_heads P Yes Empty h = tt
+inner_heads P Yes (Then leaf rest) h = tt
+inner_heads P Yes (IfThen a one other rest) h = h.1
+inner_heads P Yes (WhileThen a body rest) h = tt
+inner_heads P No Empty h = tt
+inner_heads P No (Then leaf rest) h = tt
+inner_heads P No (IfThen a one other rest) h = h.2
+inner_heads P No (WhileThen a body rest) h = tt
+inner_heads P Body Empty h = tt
+inner_heads P Body (Then leaf rest) h = tt
+inner_heads P Body (IfThen a one other rest) h = tt
+inner_heads P Body (WhileThen a body rest) h = h.1
+
+standing_heads : (P : Head → Type 0) (root : Tree) (outer : List Outer) → AllHeads P root → AllHeads P (standing root outer).block
+standing_heads P root [] h = h
+standing_heads P root (o ∷ outer) h = inner_heads P o.side (statements_at (standing root outer) o.index) (from_heads P o.index (standing root outer).block (standing_heads P root outer h))
+
+-- the statement at a place is proper
+pub head_proper : (p : Program) (f : ℕ) (g : Function) (path : Path) (s : Stmt) (rest : Tree) → IsProperProgram p → function_at p f ≡ Some g → tree_at (tree_of g.body) path ≡ before_rest s rest → IsProperHead p (length g.registers) (head_of s)
+head_proper p f g path s rest ok e t =
+    let P = IsProperHead p (length g.registers) in
+    let root = tree_of g.body in
+    let u = tree_at root path in
+    let all = from_heads P path.index (standing_of root path).block (standing_heads P root (way path) (function_proper p f g ok e).heads) in
+    all_first P (placed 0 u) (head_of s) (all_placed P 0 u all)
+    (ap (λ (v : Tree). first_head (placed 0 v)) t ∙ ap first_head (sym (at_first 0 (before_rest s rest) End ∙ join-end (placed 0 (before_rest s rest)))) ∙ first_of s 0 rest End)
 
 atom_more : (n : ℕ) (a : Atom) → n ≤ 64 → IsProperAtom n a → IsProperAtom 64 a
 atom_more n (Const i) l h = h
@@ -95,18 +122,27 @@ proper_more p n (Store x a) l h = (h.0, atom_more n a l h.1)
 proper_more p n (AtomicLoad r order y) l h = (omega (arith, h.0), h.1, h.2)
 proper_more p n (AtomicStore order y a) l h = (h.0, h.1, atom_more n a l h.2)
 proper_more p n (Update r order y kind) l h = (omega (arith, h.0), h.1, update_more n kind l h.2)
+proper_more p n (Fence order) l h = h
 proper_more p n (Print a) l h = atom_more n a l h
 proper_more p n (If a x y) l h = atom_more n a l h
 proper_more p n (While a x) l h = atom_more n a l h
 proper_more p n (Call r f args) l h = (omega (arith, h.0), h.1, atoms_more n args l h.2)
 
-whole : (p : Program) (f : ℕ) → rest_from 0 (body_of p f) 0 End ≡ code_of p f
-whole p f = at_first 0 (body_of p f) End ∙ join-end (code_of p f)
+-- a call has few arguments
+pub call_few : (p : Program) (r f : ℕ) (args : List Atom) → IsProperProgram p → IsProperHead p 64 (Call r f args) → length args ≤ 8
+call_few p r f args ok h = at_some (function_at p f) refl h.1
+  where
+    at_some : (o : Option Function) → function_at p f ≡ o → IsSomeAnd o (λ g. length args ≡ g.params) → length args ≤ 8
+    at_some None e q = absurd q
+    at_some (Some g) e q = let few = (function_proper p f g ok e).few_params in omega (arith, q, few)
 
-pub called_in : (p : Program) (f : ℕ) (registers : List Val) → frame_in p (record { function = f; site = 0; registers = registers }) ≡ record { function = f; registers = registers; continuation = code_of p f }
+whole : (p : Program) (f : ℕ) → continuation_of (body_of p f) first_path ≡ code_of p f
+whole p f = join-end (code_of p f)
+
+pub called_in : (p : Program) (f : ℕ) (registers : List Val) → frame_in p (record { function = f; path = first_path; registers = registers }) ≡ record { function = f; registers = registers; continuation = code_of p f }
 called_in p f registers = ap (λ (k : Code). let x : Frame = record { function = f; registers = registers; continuation = k } in x) (whole p f)
 
-pub begins_in : (p : Program) (f : ℕ) (values : List Val) (l : Positions) (top : Position) → l ≡ record { top = top; callers = [] } → top ≡ record { function = f; site = 0; registers = loaded 0 values blank } → stack_in p l ≡ begun p f values
+pub begins_in : (p : Program) (f : ℕ) (values : List Val) (l : Positions) (top : Position) → l ≡ record { top = top; callers = [] } → top ≡ record { function = f; path = first_path; registers = loaded 0 values blank } → stack_in p l ≡ begun p f values
 begins_in p f values l top e t =
     ap (stack_in p) (e ∙ ap (λ (x : Position). let y : Positions = record { top = x; callers = [] } in y) t)
     ∙ ap (λ (x : Frame). let y : Stack = record { top = x; callers = [] } in y) (called_in p f (loaded 0 values blank))

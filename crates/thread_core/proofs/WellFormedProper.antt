@@ -11,12 +11,12 @@ use Rattle.il_syntax.specs.declared.statement.Atom.{Atom}
 use Rattle.il_syntax.specs.declared.statement.Atom.TheVariants.{Const, Reg}
 use Rattle.il_syntax.specs.declared.statement.Rmw.{Rmw}
 use Rattle.il_syntax.specs.declared.statement.Rmw.TheVariants as rmw
-use Rattle.il_syntax.specs.declared.statement.Stmt.TheOpen.{Skip, Copy, Compute, Load, Store, AtomicLoad, AtomicStore, Update, Print, If, While, Call}
+use Rattle.il_syntax.specs.declared.statement.Stmt.TheOpen.{Skip, Copy, Compute, Load, Store, AtomicLoad, AtomicStore, Update, Fence, Print, If, While, Call}
 use Rattle.il_syntax.specs.declared.program.Function.{Function}
 use Rattle.il_syntax.specs.declared.program.Start.{Start}
 use Rattle.il_syntax.specs.declared.program.Program.{Program}
-use Rattle.il_syntax.specs.Statements.{heads_of_all, site_count}
-use Rattle.il_syntax.specs.WellFormed.{declared_by, params_of, atom_exists, operands_exist, numbers_exist, atomic_location_exists, na_location_exists, is_load_order, is_store_order, order_is_allowed, has_params, arity_agrees, each_statement, function_numbers_exist, function_is_within_limits, thread_numbers_exist, thread_arity_agrees, is_signed_64, is_short, names_of, IsWellFormed}
+use Rattle.il_syntax.specs.Statements.{heads_of_all, site_count, depth_of_all}
+use Rattle.il_syntax.specs.WellFormed.{declared_by, params_of, atom_exists, operands_exist, numbers_exist, atomic_location_exists, na_location_exists, is_load_order, is_store_order, order_is_allowed, has_params, arity_agrees, each_statement, function_numbers_exist, function_is_within_limits, blocks_are_shallow, thread_numbers_exist, thread_arity_agrees, is_signed_64, is_short, names_of, IsWellFormed}
 use Rattle.il_syntax.specs.Statements.{Head}
 use Rattle.il_paths.specs.Tree.{tree_of}
 use Rattle.il_paths.proofs.HeadsInOrder.{heads_agree, all_heads_of}
@@ -85,6 +85,7 @@ head_proper p n (AtomicLoad r order y) t = (ltb-true r n t.0, ltb-true y (length
 head_proper p n (AtomicStore order y a) t = (ltb-true y (length p.atomic) t.1, store_order order t.3, atom_proper n a t.0)
 head_proper p n (Update r order y kind) t =
     let q = and_parts (ltb r n) (operands_exist n kind) t.0 in (ltb-true r n q.0, ltb-true y (length p.atomic) t.1, update_proper n kind q.1)
+head_proper p n (Fence order) t = t.3
 head_proper p n (Print a) t = atom_proper n a t.0
 head_proper p n (If a _ _) t = atom_proper n a t.0
 head_proper p n (While a _) t = atom_proper n a t.0
@@ -117,6 +118,7 @@ FunctionTests p f =
     × (each_statement order_is_allowed f ≡ true)
     × (each_statement (arity_agrees (params_of p)) f ≡ true)
     × (function_is_within_limits f ≡ true)
+    × (blocks_are_shallow f ≡ true)
 
 function_proper : (p : Program) (f : Function) → FunctionTests p f → IsProperFunction p f
 function_proper p f t =
@@ -132,7 +134,9 @@ function_proper p f t =
     record {
       few = leb-true n 64 registers.0;
       begin = leb-true f.params n params.0;
+      few_params = leb-true f.params 8 limit.0;
       small = count;
+      shallow = leb-true (depth_of_all f.body.statements) 32 t.6;
       heads = all_heads_of (IsProperHead p n) (tree_of f.body) (subst (AllByRecursion (IsProperHead p n)) (sym (heads_agree f.body)) all);
       result = atom_proper n f.result numbers.1;
     }
@@ -146,16 +150,18 @@ functions_proper : (p : Program) (fs : List Function)
     → list_all (each_statement order_is_allowed) fs ≡ true
     → list_all (each_statement (arity_agrees (params_of p))) fs ≡ true
     → list_all function_is_within_limits fs ≡ true
+    → list_all blocks_are_shallow fs ≡ true
     → AllByRecursion (IsProperFunction p) fs
-functions_proper p [] a b c d e l = tt
-functions_proper p (f ∷ fs) a b c d e l =
+functions_proper p [] a b c d e l s = tt
+functions_proper p (f ∷ fs) a b c d e l s =
     let qa = and_parts (function_numbers_exist (declared_by p) f) (list_all (function_numbers_exist (declared_by p)) fs) a in
     let qb = and_parts (each_statement (atomic_location_exists (length p.atomic)) f) (list_all (each_statement (atomic_location_exists (length p.atomic))) fs) b in
     let qc = and_parts (each_statement (na_location_exists (length p.na)) f) (list_all (each_statement (na_location_exists (length p.na))) fs) c in
     let qd = and_parts (each_statement order_is_allowed f) (list_all (each_statement order_is_allowed) fs) d in
     let qe = and_parts (each_statement (arity_agrees (params_of p)) f) (list_all (each_statement (arity_agrees (params_of p))) fs) e in
     let ql = and_parts (function_is_within_limits f) (list_all function_is_within_limits fs) l in
-    (function_proper p f (qa.0, qb.0, qc.0, qd.0, qe.0, ql.0), functions_proper p fs qa.1 qb.1 qc.1 qd.1 qe.1 ql.1)
+    let qs = and_parts (blocks_are_shallow f) (list_all blocks_are_shallow fs) s in
+    (function_proper p f (qa.0, qb.0, qc.0, qd.0, qe.0, ql.0, qs.0), functions_proper p fs qa.1 qb.1 qc.1 qd.1 qe.1 ql.1 qs.1)
 
 start_proper : (p : Program) (t : Start) → thread_numbers_exist (length p.functions) t ≡ true → thread_arity_agrees (params_of p) t ≡ true → IsProperStart p t
 start_proper p t a b =
@@ -179,7 +185,7 @@ well_formed_proper p w =
     let threads = and_parts (leb (length p.threads) 16) _ functions.1 in
     let names = and_parts (list_all is_short (names_of p)) (list_all function_is_within_limits p.functions) threads.1 in
     record {
-      functions = functions_proper p p.functions numbers.0 w.atomic_locations w.na_locations w.orders arities.0 names.1;
+      functions = functions_proper p p.functions numbers.0 w.atomic_locations w.na_locations w.orders arities.0 names.1 w.depth;
       threads = starts_proper p p.threads numbers.1 arities.1;
       few_threads = leb-true (length p.threads) 16 threads.0;
       few_na = leb-true (length p.na) 16 na.0;

@@ -1,7 +1,7 @@
 -- Programs that the machine runs, and the accesses that they make.
-use Rattle.std.specs.Prelude.{◌≡◌, ℕ, ◌<◌, ◌≤◌, false, length, Option, Some, None, slice_get, IsSomeAnd}
+use Rattle.std.specs.Prelude.{◌≡◌, ℕ, ◌<◌, ◌≤◌, true, false, length, Option, Some, None, slice_get, IsSomeAnd}
 use Rattle.std.specs.List.{AllByRecursion}
-use Rattle.values_undef.specs.Access.{acquires, releases}
+use Rattle.values_undef.specs.Access.{acquires, releases, is_fence_order}
 use Rattle.values_undef.specs.declared.access.Access.{Access}
 use Rattle.values_undef.specs.declared.access.Access.TheVariants as access
 use Rattle.thread_core.specs.declared.next.Next.{Next}
@@ -10,11 +10,11 @@ use Rattle.il_syntax.specs.declared.statement.Atom.{Atom}
 use Rattle.il_syntax.specs.declared.statement.Atom.TheVariants.{Const, Reg}
 use Rattle.il_syntax.specs.declared.statement.Rmw.{Rmw}
 use Rattle.il_syntax.specs.declared.statement.Rmw.TheVariants.{Add, Swap, Cas}
-use Rattle.il_syntax.specs.declared.statement.Stmt.TheOpen.{Skip, Copy, Compute, Load, Store, AtomicLoad, AtomicStore, Update, Print, If, While, Call}
+use Rattle.il_syntax.specs.declared.statement.Stmt.TheOpen.{Skip, Copy, Compute, Load, Store, AtomicLoad, AtomicStore, Update, Fence, Print, If, While, Call}
 use Rattle.il_syntax.specs.declared.program.Function.{Function}
 use Rattle.il_syntax.specs.declared.program.Start.{Start}
 use Rattle.il_syntax.specs.declared.program.Program.{Program}
-use Rattle.il_syntax.specs.Statements.{Head, site_count}
+use Rattle.il_syntax.specs.Statements.{Head, site_count, depth_of_all}
 use Rattle.il_paths.specs.Tree.{Tree, Empty, tree_of}
 use Rattle.il_paths.specs.Code.{Code, placed, AllHeads}
 
@@ -44,8 +44,8 @@ IsProperUpdate registers (Add a) = IsProperAtom registers a
 IsProperUpdate registers (Swap a) = IsProperAtom registers a
 IsProperUpdate registers (Cas expected new) = IsProperAtom registers expected × IsProperAtom registers new
 
--- The statement names what the program and its function have. A load does not release, and a store does
--- not acquire.
+-- The statement names what the program and its function have. A load does not release, a store does not
+-- acquire, and a fence does one of these.
 abbrev pub IsProperHead : Program → ℕ → Head → Type 0
 IsProperHead p registers Skip = Unit {0}
 IsProperHead p registers (Copy r a) = (r < registers) × IsProperAtom registers a
@@ -55,17 +55,21 @@ IsProperHead p registers (Store x a) = (x < length p.na) × IsProperAtom registe
 IsProperHead p registers (AtomicLoad r order y) = (r < registers) × (y < length p.atomic) × (releases order ≡ false)
 IsProperHead p registers (AtomicStore order y a) = (y < length p.atomic) × (acquires order ≡ false) × IsProperAtom registers a
 IsProperHead p registers (Update r order y kind) = (r < registers) × (y < length p.atomic) × IsProperUpdate registers kind
+IsProperHead p registers (Fence order) = is_fence_order order ≡ true
 IsProperHead p registers (Print a) = IsProperAtom registers a
 IsProperHead p registers (If a _ _) = IsProperAtom registers a
 IsProperHead p registers (While a _) = IsProperAtom registers a
 IsProperHead p registers (Call r f args) =
     (r < registers) × IsSomeAnd (function_at p f) (λ g. length args ≡ g.params) × AllByRecursion (IsProperAtom registers) args
 
--- A function of at most 64 registers and 4096 statements, which name what it and the program have.
+-- A function of at most 64 registers, 8 of them parameters, and 4096 statements, with blocks at most 32
+-- deep, which name what it and the program have.
 pub record IsProperFunction (p : Program) (f : Function) : Type 0 where
   pub few : length f.registers ≤ 64
   pub begin : f.params ≤ length f.registers
+  pub few_params : f.params ≤ 8
   pub small : site_count f.body.statements ≤ 4096
+  pub shallow : depth_of_all f.body.statements ≤ 32
   pub heads : AllHeads (IsProperHead p (length f.registers)) (tree_of f.body)
   pub result : IsProperAtom (length f.registers) f.result
 
@@ -89,6 +93,7 @@ IsProperAccess p (access.NaWrite x v) = x < length p.na
 IsProperAccess p (access.Read y order) = (y < length p.atomic) × (releases order ≡ false)
 IsProperAccess p (access.Write y order v) = (y < length p.atomic) × (acquires order ≡ false)
 IsProperAccess p (access.Update y order kind) = y < length p.atomic
+IsProperAccess p (access.Fence order) = is_fence_order order ≡ true
 IsProperAccess p (access.Print v) = Unit {0}
 IsProperAccess p (access.Fail cause) = Unit {0}
 IsProperAccess p access.Finish = Unit {0}

@@ -1,27 +1,23 @@
-//! One call of a function: the site where it stands, and its registers.
+//! One call of a function: the place where it stands, and its registers.
 ghost use Rattle.std.specs.Prelude.{◌≡◌, ℕ, ◌<◌, ◌≤◌, Some, None, length, map, slice_set, slice_get, MatchOption, IfSome, IsSomeAnd};
 ghost use Rattle.std.specs.List.{AllByRecursion};
 ghost use Rattle.values_undef.specs.declared.value.Val.TheVariants.{Def};
 ghost use Rattle.il_syntax.specs.Statements.{head_of};
-ghost use Rattle.il_paths.specs.Tree.{tree_of, sites_of};
-ghost use Rattle.il_paths.specs.Code.{End};
 ghost use Rattle.il_paths.specs.Code.{first_head};
-ghost use Rattle.il_paths.specs.Sites.{rest_from};
 ghost use Rattle.thread_core.specs.Programs.{function_at, body_of, IsProperAtom, IsProperUpdate, IsProperHead, IsProperFunction, IsProperProgram, IsProperNext};
 ghost use Rattle.thread_core.specs.Frames.{evaluated, evaluated_kind, holds, passed, gave, worked, told, target_of, given_by, received, function_result, next_at, loaded, blank};
-ghost use Rattle.thread_core.specs.Steps.{frame_in, statement_at, entered, IsPosition};
+ghost use Rattle.thread_core.specs.Steps.{frame_in, statement_at, entered, first_path, IsPosition};
 
 use crate::next::{Next, computed, decided, deepened, printed};
-use il_paths::site_after;
-use il_syntax::text_order::statement;
-use il_syntax::{Atom, Function, Program, Rmw, Stmt, sites};
+use crate::path::Path;
+use il_syntax::{Atom, Function, Program, Rmw, Stmt};
 use values_undef::{Access, Event, UpdateKind, Val, apply};
 
-/// A call of a function: its next statement, by its site, and its registers.
+/// A call of a function: its next statement, by its place, and its registers.
 #[derive(Drop)]
 pub struct Position {
     pub function: u32,
-    pub site: u32,
+    pub path: Path,
     pub registers: [Val; 64],
 }
 
@@ -42,12 +38,7 @@ impl Position {
         ensures statement { IfSome result (λ s. statement_at p.now self.now ≡ Some s.now) }
         ensures proper { IfSome result (λ s. IsProperHead p.now 64 (head_of s.now)) }
     {
-        let f = function_at(p, self.function);
-        if self.site < sites(f) {
-            Some(statement(f, self.site))
-        } else {
-            None
-        }
+        self.path.statement(&function_at(p, self.function).body)
     }
 
     /// The next statement is done.
@@ -57,11 +48,7 @@ impl Position {
         ensures frame { frame_in p.now self.new ≡ passed (frame_in p.now self.old) holds }
         ensures at { IsPosition p.now self.new }
     {
-        let f = function_at(p, self.function);
-        let end = sites(f);
-        if self.site < end {
-            self.site = site_after(&f.body, 0, self.site, holds, end);
-        }
+        self.path.pass(&function_at(p, self.function).body, holds);
     }
 
     /// The value of an atom.
@@ -133,6 +120,7 @@ impl Position {
                 order: *order,
                 v: self.value(a),
             },
+            Stmt::Fence { order } => Access::Fence { order: *order },
             Stmt::Update { order, y, kind, .. } => Access::Update {
                 y: *y,
                 order: *order,
@@ -225,7 +213,7 @@ impl Position {
         }
         Position {
             function,
-            site: 0,
+            path: Path::first(),
             registers,
         }
     }
@@ -233,7 +221,7 @@ impl Position {
     /// A call of a function with these values.
     pub fn begin(function: u32, values: &[Val]) -> Position
         requires { length values.now ≤ 64 }
-        ensures { result ≡ record { function = function; site = 0; registers = loaded 0 values.now blank } }
+        ensures { result ≡ record { function = function; path = first_path; registers = loaded 0 values.now blank } }
     {
         let mut registers = [Val::Def(0); 64];
         for (i, v) in values.iter().enumerate() {
@@ -241,7 +229,7 @@ impl Position {
         }
         Position {
             function,
-            site: 0,
+            path: Path::first(),
             registers,
         }
     }
@@ -249,7 +237,7 @@ impl Position {
     /// A call of a function with these numbers.
     pub fn begin_with(function: u32, numbers: &[i64]) -> Position
         requires { length numbers.now ≤ 64 }
-        ensures { result ≡ record { function = function; site = 0; registers = loaded 0 (map Def numbers.now) blank } }
+        ensures { result ≡ record { function = function; path = first_path; registers = loaded 0 (map Def numbers.now) blank } }
     {
         let mut registers = [Val::Def(0); 64];
         for (i, n) in numbers.iter().enumerate() {
@@ -257,7 +245,7 @@ impl Position {
         }
         Position {
             function,
-            site: 0,
+            path: Path::first(),
             registers,
         }
     }

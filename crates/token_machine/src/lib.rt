@@ -10,7 +10,7 @@
 //! A machine with one state for each thing that was read is the device by which a reader is proved:
 //! what it answers is the tree, or the first fault, exactly (`specs/Text` has the meaning,
 //! `specs/Machine` the machine, and the functions of `laws` join them). Nothing here knows a
-//! grammar, so that programs and journals are read by the same theory.
+//! grammar: `il_grammar` has the one of programs.
 #![tactic(auto)]
 
 mod fault;
@@ -23,6 +23,3 @@ pub use laws::{
     spelled_is_faultless, spelled_or_faulty,
 };
 pub use leaf::{fault_at, next};
-
-#[cfg(test)]
-mod tests;

@@ -5,3 +5,8 @@ pub mod Reached
 pub mod Opened
 pub mod Merging
 pub mod Versions
+pub mod NoFences
+pub mod OneViewRuns
+pub mod Counting
+pub mod Asking
+pub mod Callers

@@ -12,9 +12,10 @@ use Rattle.values_undef.specs.declared.value.Val.TheVariants.{Def}
 use Rattle.il_syntax.specs.declared.program.Program.{Program}
 use Rattle.il_syntax.specs.declared.program.Location.{Location}
 use Rattle.il_syntax.specs.declared.program.Start.{Start}
-use Rattle.message_memory.specs.Memory.{IsClosed}
+use Rattle.views.specs.ThreadView.{zero_view}
+use Rattle.message_memory.specs.Memory.{IsClosedView}
 use Rattle.message_memory.specs.Step.{step_result, MemStep}
-use Rattle.message_memory.specs.History.{MemoryState, IsWellFormedState, initial_state as initial}
+use Rattle.message_memory.specs.History.{MemoryState, IsWellFormedState, initial_memory_state as initial}
 use Rattle.message_memory.proofs.HistoryLemmas.{well_formed_after, all_at, initial_state_well_formed}
 use Rattle.message_memory.proofs.StepLaws.{keep_locations}
 use Rattle.thread_core.specs.declared.next.Next.{Next}
@@ -24,8 +25,8 @@ use Rattle.thread_core.specs.Frames.{Stack, advanced, resumed}
 use Rattle.thread_core.specs.Steps.{IsProperStack}
 use Rattle.thread_core.proofs.Keeping.{advanced_proper, resumed_proper, begun_proper, next_proper}
 use Rattle.values_undef.specs.declared.journal.Entry.{Entry}
-use Rattle.view_machine.specs.State.{State, local_in, view_in, next_in, idle, Allows, IsStep, local_after_event, step_by, after_step, start_of, values_of, initial_state}
-use Rattle.view_machine.specs.Runs.{is_spend, after_silent, AreSilent, MakesEventBy, after_event_by, after_entry, IsRunFrom, state_after, RunsTo}
+use Rattle.view_machine.specs.State.{State, local_in, view_in, next_in, idle, Allows, IsStep, local_after_event, step_by, after_step, start_of, declared_values, initial_state}
+use Rattle.view_machine.specs.Runs.{is_spend, after_silent, AreSilent, MakesEventBy, MakesEvent, after_event_by, after_event, after_entry, IsRunFrom, state_after, IsRunTo}
 use Rattle.view_machine.specs.Laws.{IsReached}
 use Rattle.view_machine.proofs.Propers.{proper_in}
 
@@ -69,7 +70,7 @@ step_by_reached p s i c (next.Access a) ok r there proper h =
     let seen : MemoryState = record { memory = s.memory; views = s.views } in
     let there_too : i < length s.views = omega (arith, there, r.views) in
     let fine = proper_in p s.memory a r.na r.atomic proper in
-    let closed = all_at (IsClosed s.memory) s.views i there_too r.well_formed.closed in
+    let closed = all_at (IsClosedView s.memory) s.views i there_too r.well_formed.closed in
     let made : MemStep s.memory (view_in s i) i a c o.event o.memory o.view = record { legal = h; event = refl; memory = refl; view = refl } in
     let k = keep_locations s.memory o.memory (view_in s i) o.view i a c o.event r.well_formed.well_formed closed fine made in
     record {
@@ -102,33 +103,36 @@ event_reached p s i e true ok r h = record {
 }
 event_reached p s i e false ok r h = step_reached p s i (choice_of_event e) ok r h.step
 
+pub makes_reached : (p : Program) (s : State) (i : ℕ) (e : Event) → IsProperProgram p → IsReached p s → MakesEvent p s i e → IsReached p (after_event p s i e)
+makes_reached p s i e ok r h = event_reached p s i e (is_spend e) ok r h
+
 pub run_reached : (p : Program) (s : State) (entries : List Entry) → IsProperProgram p → IsReached p s → IsRunFrom p s entries → IsReached p (state_after p s entries)
 run_reached p s [] ok r h = r
 run_reached p s (e ∷ more) ok r h =
     run_reached p (after_entry p s e) more ok
     (event_reached p (after_silent p e.thread e.silent s) e.thread e.event (is_spend e.event) ok (silent_reached p e.thread e.silent s ok r h.0.silent) h.0.event) h.1
 
-length_values : (locations : List Location) → length (values_of locations) ≡ length locations
+length_values : (locations : List Location) → length (declared_values locations) ≡ length locations
 length_values locations = length-map locations (λ l. l.value)
 
 -- the memory's initial state, with the numbers of locations
-pub initial_memories : (p : Program) → initial (values_of p.na) (values_of p.atomic) (length p.threads) ≡ record { memory = (initial_state p).memory; views = (initial_state p).views }
+pub initial_memories : (p : Program) → initial (declared_values p.na) (declared_values p.atomic) (length p.threads) ≡ record { memory = (initial_state p).memory; views = (initial_state p).views }
 initial_memories p = λ i. record {
   memory = (initial_state p).memory;
-  views = replicate (length p.threads) (replicate (length_values p.na i + length_values p.atomic i) 0);
+  views = replicate (length p.threads) (zero_view (length_values p.na i + length_values p.atomic i));
 }
 
 pub initial_reached : (p : Program) → IsProperProgram p → IsReached p (initial_state p)
 initial_reached p ok =
     let n : length (initial_state p).locals ≡ length p.threads = length-map p.threads (start_of p) in record {
       threads = n;
-      na = length-map (values_of p.na) _ ∙ length_values p.na;
-      atomic = length-map (values_of p.atomic) _ ∙ length_values p.atomic;
+      na = length-map (declared_values p.na) _ ∙ length_values p.na;
+      atomic = length-map (declared_values p.atomic) _ ∙ length_values p.atomic;
       views = length-replicate (length p.threads) _ ∙ sym n;
       ended = length-replicate (length p.threads) _ ∙ sym n;
       stacks = all_map (IsProperStack p) (start_of p) p.threads (λ (start : Start). begun_proper p start.function (map Def start.args) ok);
-      well_formed = subst IsWellFormedState (initial_memories p) (initial_state_well_formed (values_of p.na) (values_of p.atomic) (length p.threads));
+      well_formed = subst IsWellFormedState (initial_memories p) (initial_state_well_formed (declared_values p.na) (declared_values p.atomic) (length p.threads));
     }
 
-pub states_whole : (p : Program) (entries : List Entry) (s : State) → IsProperProgram p → RunsTo p entries s → IsReached p s
+pub states_whole : (p : Program) (entries : List Entry) (s : State) → IsProperProgram p → IsRunTo p entries s → IsReached p s
 states_whole p entries s ok r = subst (IsReached p) r.state (run_reached p (initial_state p) entries ok (initial_reached p ok) r.run)

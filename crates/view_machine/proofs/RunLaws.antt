@@ -7,7 +7,7 @@ use Rattle.values_undef.specs.Journal.{Output, printed, outputs_of}
 use Rattle.values_undef.specs.declared.access.Choice.{Choice}
 use Rattle.values_undef.specs.declared.access.Choice.TheVariants.{Plain}
 use Rattle.values_undef.specs.declared.access.Event.{Event}
-use Rattle.values_undef.specs.declared.access.Event.TheVariants.{NaRead, NaWrite, Read, Write, Update, Miss, Print, Fail, FailCompare, Finish, Spend}
+use Rattle.values_undef.specs.declared.access.Event.TheVariants.{NaRead, NaWrite, Read, Write, Update, Miss, Fence, Print, Fail, FailCompare, Finish, Spend}
 use Rattle.values_undef.specs.declared.journal.Entry.{Entry}
 use Rattle.il_syntax.specs.declared.program.Program.{Program}
 use Rattle.message_memory.specs.Memory.{Memory}
@@ -17,7 +17,7 @@ use Rattle.thread_core.specs.declared.next.Next.{Next}
 use Rattle.thread_core.specs.declared.next.Next.TheVariants as next
 use Rattle.view_machine.specs.declared.stepped.Stepped.TheVariants as stepped
 use Rattle.view_machine.specs.State.{State, view_in, next_in, Allows, IsStep, step_by, after_step, initial_state}
-use Rattle.view_machine.specs.Runs.{is_spend, after_silent, AreSilent, MakesEventBy, after_event_by, IsEntry, after_entry, IsRunFrom, IsJournalRun, state_after, RunsTo}
+use Rattle.view_machine.specs.Runs.{is_spend, after_silent, AreSilent, MakesEventBy, after_event_by, IsEntry, after_entry, IsRunFrom, IsJournalRun, state_after, IsRunTo}
 
 -- ---- parts
 
@@ -44,13 +44,13 @@ pub states_split : (p : Program) (s : State) (before after : List Entry) → sta
 states_split p s [] after = refl
 states_split p s (e ∷ before) after = states_split p (after_entry p s e) before after
 
-pub run_goes_on : (p : Program) (entries : List Entry) (s : State) (e : Entry) → RunsTo p entries s → IsEntry p s e → RunsTo p (entries ++ e ∷ []) (after_entry p s e)
+pub run_goes_on : (p : Program) (entries : List Entry) (s : State) (e : Entry) → IsRunTo p entries s → IsEntry p s e → IsRunTo p (entries ++ e ∷ []) (after_entry p s e)
 run_goes_on p entries s e r h = record {
   run = runs_join p (initial_state p) entries (e ∷ []) r.run (subst (λ (t : State). IsEntry p t e) (sym r.state) h, tt);
   state = states_split p (initial_state p) entries (e ∷ []) ∙ ap (λ (t : State). after_entry p t e) r.state;
 }
 
-pub runs_lead : (p : Program) (entries : List Entry) → IsJournalRun p entries ↔ RunsTo p entries (state_after p (initial_state p) entries)
+pub runs_lead : (p : Program) (entries : List Entry) → IsJournalRun p entries ↔ IsRunTo p entries (state_after p (initial_state p) entries)
 runs_lead p entries = (λ h. record { run = h; state = refl }, λ r. r.run)
 
 -- ---- events
@@ -62,6 +62,7 @@ spend_is (Read y o v to) h = absurd (false≢true h)
 spend_is (Write y o v a b) h = absurd (false≢true h)
 spend_is (Update y o a b c d) h = absurd (false≢true h)
 spend_is (Miss y o v a) h = absurd (false≢true h)
+spend_is (Fence order) h = absurd (false≢true h)
 spend_is (Print v) h = absurd (false≢true h)
 spend_is (Fail cause) h = absurd (false≢true h)
 spend_is (FailCompare y read) h = absurd (false≢true h)
@@ -123,6 +124,6 @@ run_prints p s (e ∷ entries) h =
     ∙ append_assoc s.memory.outputs (printed e.thread e.event) (outputs_of entries)
 
 -- what the memory has printed is what the journal prints
-pub outputs_printed : (p : Program) (entries : List Entry) (s : State) → RunsTo p entries s → s.memory.outputs ≡ outputs_of entries
+pub outputs_printed : (p : Program) (entries : List Entry) (s : State) → IsRunTo p entries s → s.memory.outputs ≡ outputs_of entries
 outputs_printed p entries s r =
     ap (λ (t : State). t.memory.outputs) (sym r.state) ∙ run_prints p (initial_state p) entries r.run

@@ -1,7 +1,8 @@
--- How the code keeps a state.
+-- How the code keeps a state. Clauses cite it by `state_in` alone, and by the conditions of its calls.
 use Rattle.std.specs.Prelude.{◌≡◌, ℕ, ◌<◌, ◌^◌, Bool, List, length, map}
 use Rattle.std.specs.List.{AllByRecursion}
 use Rattle.il_syntax.specs.declared.program.Program.{Program}
+use Rattle.views.specs.ThreadView.{ThreadView}
 use Rattle.message_memory.specs.Memory.{Memory}
 use Rattle.message_memory.specs.History.{IsWellFormedState}
 use Rattle.thread_core.specs.Steps.{Positions, stack_in, ArePositions}
@@ -10,7 +11,7 @@ use Rattle.view_machine.specs.State.{State}
 -- what contracts see of a machine: each thread by its positions, and for how many accesses there is room
 pub record Held : Type 0 where
   pub locals : List Positions
-  pub views : List (List ℕ)
+  pub views : List ThreadView
   pub ended : List Bool
   pub memory : Memory
   pub spare : ℕ

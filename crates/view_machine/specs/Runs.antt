@@ -2,28 +2,14 @@
 -- (`after_entry`).
 use Rattle.std.specs.Prelude.{◌≡◌, ℕ, zero, suc, List, [], ◌∷◌, Bool, true, false}
 use Rattle.values_undef.specs.Access.{choice_of_event}
+pub use Rattle.values_undef.specs.Access.{is_spend}
 use Rattle.values_undef.specs.declared.access.Choice.TheVariants.{Plain}
 use Rattle.values_undef.specs.declared.access.Event.{Event}
-use Rattle.values_undef.specs.declared.access.Event.TheVariants.{NaRead, NaWrite, Read, Write, Update, Miss, Print, Fail, FailCompare, Finish, Spend}
 use Rattle.values_undef.specs.declared.journal.Entry.{Entry}
 use Rattle.il_syntax.specs.declared.program.Program.{Program}
 use Rattle.thread_core.specs.declared.next.Next.TheVariants as next
 use Rattle.view_machine.specs.declared.stepped.Stepped.TheVariants as stepped
 use Rattle.view_machine.specs.State.{State, next_in, IsStep, after_step, IsSpendable, after_spend, initial_state}
-
--- the event ends a thread whose budget of steps is used up
-abbrev pub is_spend : Event → Bool
-is_spend (NaRead x v) = false
-is_spend (NaWrite x v version) = false
-is_spend (Read y order v to) = false
-is_spend (Write y order v from to) = false
-is_spend (Update y order old new read to) = false
-is_spend (Miss y order old read) = false
-is_spend (Print v) = false
-is_spend (Fail cause) = false
-is_spend (FailCompare y read) = false
-is_spend Finish = false
-is_spend Spend = true
 
 -- the state after this many silent steps of a thread
 abbrev pub after_silent : Program → ℕ → ℕ → State → State
@@ -78,6 +64,6 @@ abbrev pub IsJournalRun : Program → List Entry → Type 0
 IsJournalRun p entries = IsRunFrom p (initial_state p) entries
 
 -- the journal is a run that leads to the state
-pub record RunsTo (p : Program) (entries : List Entry) (s : State) : Type 0 where
+pub record IsRunTo (p : Program) (entries : List Entry) (s : State) : Type 0 where
   pub run : IsJournalRun p entries
   pub state : state_after p (initial_state p) entries ≡ s

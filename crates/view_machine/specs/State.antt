@@ -1,29 +1,30 @@
 -- A state of the machine, and its steps: whether a thread has a step with a choice (`IsStep`), and what
 -- the step leaves (`after_step`).
-use Rattle.std.specs.Prelude.{◌≡◌, ℕ, ℤ, ◌+◌, ◌<◌, ◌||◌, Bool, true, false, List, [], length, map, replicate, slice_index_or, slice_set, if◌then◌else◌}
-use Rattle.values_undef.specs.Access.{is_failure, ends_thread}
+use Rattle.std.specs.Prelude.{◌≡◌, ℕ, ◌+◌, ◌<◌, Bool, true, false, List, [], length, map, replicate, slice_index_or, slice_set}
 use Rattle.values_undef.specs.Journal.{is_finish}
 use Rattle.values_undef.specs.declared.value.Val.TheVariants.{Def}
 use Rattle.values_undef.specs.declared.access.Choice.{Choice}
 use Rattle.values_undef.specs.declared.access.Choice.TheVariants as choice
 use Rattle.values_undef.specs.declared.access.Event.{Event}
 use Rattle.values_undef.specs.declared.access.Access.TheVariants as access
-use Rattle.il_syntax.specs.declared.program.Location.{Location}
 use Rattle.il_syntax.specs.declared.program.Program.{Program}
 use Rattle.il_syntax.specs.declared.program.Start.{Start}
 use Rattle.il_paths.specs.Code.{End}
+use Rattle.views.specs.ThreadView.{ThreadView, no_view, zero_view}
 use Rattle.message_memory.specs.Memory.{Memory, initial_memory}
 use Rattle.message_memory.specs.Step.{IsLegal, step_result}
 use Rattle.thread_core.specs.declared.next.Next.{Next}
 use Rattle.thread_core.specs.declared.next.Next.TheVariants as next
-use Rattle.thread_core.specs.Frames.{Stack, next_of, advanced, resumed, begun}
+use Rattle.thread_core.specs.Frames.{Stack, next_of, advanced, begun}
+pub use Rattle.thread_core.specs.Alone.{local_after_event}
 use Rattle.view_machine.specs.declared.stepped.Stepped.{Stepped}
 use Rattle.view_machine.specs.declared.stepped.Stepped.TheVariants as stepped
+pub use Rattle.il_syntax.specs.Given.{declared_values}
 
 -- a local and a view of each thread, which of them have ended, and one memory
 pub record State : Type 0 where
   pub locals : List Stack
-  pub views : List (List ℕ)
+  pub views : List ThreadView
   pub ended : List Bool
   pub memory : Memory
 
@@ -38,8 +39,8 @@ local_in s i = slice_index_or s.locals i idle
 abbrev pub with_local : State → ℕ → Stack → State
 with_local s i l = record s { locals = slice_set s.locals i l }
 
-abbrev pub view_in : State → ℕ → List ℕ
-view_in s i = slice_index_or s.views i []
+abbrev pub view_in : State → ℕ → ThreadView
+view_in s i = slice_index_or s.views i no_view
 
 abbrev pub has_ended : State → ℕ → Bool
 has_ended s i = slice_index_or s.ended i true
@@ -57,7 +58,7 @@ pub record IsRunning (s : State) (i : ℕ) : Type 0 where
   pub running : s.memory.failed ≡ false
 
 -- a silent step has the plain choice alone, an access has those of the memory
-abbrev pub Allows : Memory → List ℕ → Choice → Next → Type 0
+abbrev pub Allows : Memory → ThreadView → Choice → Next → Type 0
 Allows m v c next.Silent = c ≡ choice.Plain
 Allows m v c (next.Access a) = IsLegal m v a c
 
@@ -65,10 +66,6 @@ Allows m v c (next.Access a) = IsLegal m v a c
 pub record IsStep (s : State) (i : ℕ) (c : Choice) : Type 0 where
   pub able : IsRunning s i
   pub allowed : Allows s.memory (view_in s i) c (next_in s i)
-
--- a thread after its event; it stays where it failed, or where it has ended
-abbrev pub local_after_event : Stack → Event → Stack
-local_after_event l e = if is_failure e || ends_thread e then l else resumed l e
 
 -- what a step leaves, and what it was
 pub record StepTaken : Type 0 where
@@ -110,15 +107,11 @@ after_spend s i = record s { ended = slice_set s.ended i true }
 abbrev pub start_of : Program → Start → Stack
 start_of p start = begun p start.function (map Def start.args)
 
--- the declared values
-abbrev pub values_of : List Location → List ℤ
-values_of locations = map (λ l. l.value) locations
-
 -- where a program begins
 abbrev pub initial_state : Program → State
 initial_state p = record {
   locals = map (start_of p) p.threads;
-  views = replicate (length p.threads) (replicate (length p.na + length p.atomic) 0);
+  views = replicate (length p.threads) (zero_view (length p.na + length p.atomic));
   ended = replicate (length p.threads) false;
-  memory = initial_memory (values_of p.na) (values_of p.atomic);
+  memory = initial_memory (declared_values p.na) (declared_values p.atomic);
 }

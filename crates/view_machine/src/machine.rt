@@ -1,15 +1,17 @@
 //! The machine: the threads of a program over one memory, one step at a time.
-ghost use Rattle.std.specs.Prelude.{◌≡◌, ℕ, ◌+◌, ◌<◌, ◌≤◌, [], Some, None, IsTrue, ◌↔◌, length, IfOk, OnOk, OnErr, IfSome, MatchOption, IsSomeAnd, slice_get, slice_index_or};
+ghost use Rattle.std.specs.Prelude.{◌≡◌, ℕ, ◌+◌, ◌<◌, ◌≤◌, Some, None, IsTrue, ◌↔◌, false, length, IfOk, OnOk, OnErr, IfSome, MatchOption, IsSomeAnd, slice_get, slice_index_or};
 ghost use Rattle.il_syntax.specs.Statements.{head_of};
 ghost use Rattle.il_paths.specs.Code.{first_head};
-ghost use Rattle.message_memory.specs.Memory.{IsWellFormedMemory, IsClosed};
+ghost use Rattle.views.specs.ThreadView.{no_view};
+ghost use Rattle.message_memory.specs.Memory.{IsWellFormedMemory, IsClosedView};
 ghost use Rattle.message_memory.specs.Step.{IsLegal};
 ghost use Rattle.values_undef.specs.Access.{choice_of_event};
 ghost use Rattle.values_undef.specs.declared.access.Event.{Event};
 ghost use Rattle.thread_core.specs.Programs.{IsProperProgram, IsProperAccess, IsProperNext};
 ghost use Rattle.thread_core.specs.Frames.{next_of};
 ghost use Rattle.thread_core.specs.Steps.{statement_at};
-ghost use Rattle.view_machine.specs.State.{State, IsRunning, IsStep, IsSpendable, after_step, step_by, after_spend, initial_state, next_in, view_in, local_in};
+ghost use Rattle.view_machine.specs.State.{State, IsRunning, IsStep, IsSpendable, after_step, after_spend, initial_state, next_in, view_in, local_in, has_ended};
+ghost use Rattle.view_machine.specs.Runs.{AreSilent, after_silent};
 ghost use Rattle.view_machine.specs.Held.{Held, state_in, IsOf, HasRoom};
 
 use crate::stepped::{NoStep, Stepped};
@@ -19,7 +21,7 @@ use message_memory::MessageMemory;
 use std::alloc::Global;
 use std::marker::Model;
 use thread_core::{Local, Next};
-use values_undef::{Access, Choice, NoMemory};
+use values_undef::{Access, Choice, Event, NoMemory};
 use views::View;
 
 /// The threads of a program, and the memory that they share.
@@ -91,7 +93,13 @@ impl<M: MessageMemory> Machine<M> {
                 self.advance(p, thread);
                 Ok(Stepped::Silent)
             }
-            Next::Access { a } => self.access(p, thread, &a, c),
+            Next::Access { a } => {
+                if !self.is_legal(p, thread, &a, c) {
+                    return Err(NoStep);
+                }
+                let event = self.access(p, thread, &a, c);
+                Ok(Stepped::Did { event })
+            }
         }
     }
 
@@ -111,7 +119,7 @@ impl<M: MessageMemory> Machine<M> {
         if !self.is_running(thread) || self.is_finishing(p, thread) {
             return Err(NoStep);
         }
-        self.ended[thread as usize] = true;
+        self.end(p, thread);
         Ok(())
     }
 
@@ -126,12 +134,21 @@ impl<M: MessageMemory> Machine<M> {
     }
 
     /// Whether the thread is there and has not ended, and the memory has not failed.
-    fn is_running(&self, thread: u32) -> bool
+    pub fn is_running(&self, thread: u32) -> bool
         ensures going { (p : Program) → IsTrue result ↔ IsRunning (state_in p self.now) thread }
         ensures there { IsTrue result → thread < length self.now.locals }
     {
         let i = thread as usize;
         i < self.locals.len() && !self.ended[i] && !self.memory.failed()
+    }
+
+    /// Whether the thread has ended, or isn't there.
+    pub fn has_ended(&self, thread: u32) -> bool
+        ensures value { (p : Program) → result ≡ has_ended (state_in p self.now) thread }
+        ensures there { result ≡ false → thread < length self.now.locals }
+    {
+        let i = thread as usize;
+        i >= self.ended.len() || self.ended[i]
     }
 
     /// The memory.
@@ -145,8 +162,8 @@ impl<M: MessageMemory> Machine<M> {
     /// A thread's view.
     pub fn view(&self, thread: u32) -> &View
         requires there { thread < length self.now.locals }
-        ensures value { result.now ≡ slice_index_or self.now.views thread [] }
-        ensures closed { IsClosed self.now.memory result.now }
+        ensures value { result.now ≡ slice_index_or self.now.views thread no_view }
+        ensures closed { IsClosedView self.now.memory result.now }
     {
         &self.views[thread as usize]
     }
@@ -209,37 +226,68 @@ impl<M: MessageMemory> Machine<M> {
         locals::advance_in(&mut self.locals, p, thread as usize);
     }
 
-    /// Makes an access.
-    fn access(
-        &mut self,
-        p: &Program,
-        thread: u32,
-        a: &Access,
-        c: &Choice,
-    ) -> Result<Stepped, NoStep>
+    /// Makes silent steps of a thread up to its next access, at most so many, and tells how many it made:
+    /// fewer than `most` exactly where it stands at an access. Nothing but the thread changes.
+    pub fn run_silent(&mut self, p: &Program, thread: u32, most: u64) -> u64
         requires proper { IsProperProgram p.now }
         requires program { IsOf p.now self.old }
-        requires there { thread < length self.old.locals }
-        requires named { IsProperAccess p.now a.now }
+        requires running { IsRunning (state_in p.now self.old) thread }
+        ensures most { result ≤ most }
+        ensures silent { AreSilent p.now thread result (state_in p.now self.old) }
+        ensures state { state_in p.now self.new ≡ after_silent p.now thread result (state_in p.now self.old) }
+        ensures stops { next_in (state_in p.now self.new) thread ≡ Next.Silent → result ≡ most }
+        ensures running { IsRunning (state_in p.now self.new) thread }
+        ensures program { IsOf p.now self.new }
+        ensures room { self.new.spare ≡ self.old.spare }
+        ensures memory { self.new.memory ≡ self.old.memory }
+        ensures views { self.new.views ≡ self.old.views }
+        ensures ended { self.new.ended ≡ self.old.ended }
+    {
+        locals::run_silent_in(&mut self.locals, p, thread as usize, most)
+    }
+
+    /// Whether an access of a thread is legal with this choice.
+    pub fn is_legal(&self, _p: &Program, thread: u32, a: &Access, c: &Choice) -> bool
+        requires program { IsOf _p.now self.now }
+        requires there { thread < length self.now.locals }
+        requires named { IsProperAccess _p.now a.now }
+        ensures { IsTrue result ↔ IsLegal self.now.memory (slice_index_or self.now.views thread no_view) a.now c.now }
+    {
+        self.memory.legal(self.view(thread), a, c)
+    }
+
+    /// Makes the access that comes next in a thread, with a choice with which it is legal, and tells its
+    /// event. It takes no memory.
+    pub fn access(&mut self, p: &Program, thread: u32, a: &Access, c: &Choice) -> Event
+        requires proper { IsProperProgram p.now }
+        requires program { IsOf p.now self.old }
         requires asks { next_in (state_in p.now self.old) thread ≡ Next.Access a.now }
+        requires named { IsProperAccess p.now a.now }
+        requires there { thread < length self.old.locals }
+        requires legal { IsLegal self.old.memory (slice_index_or self.old.views thread no_view) a.now c.now }
         requires room { 1 ≤ self.old.spare }
         requires versions { HasRoom self.old.memory }
-        ensures step { IfOk result (λ done. IsLegal self.old.memory (slice_index_or self.old.views thread []) a.now c.now) }
-        ensures made { IfOk result (λ done. step_by p.now (state_in p.now self.old) thread c.now (Next.Access a.now) ≡ record { state = state_in p.now self.new; done = done }) }
-        ensures choice { IfOk result (λ done. (e : Event) → done ≡ Stepped.Did e → choice_of_event e ≡ c.now) }
-        ensures none { OnErr result (IsLegal self.old.memory (slice_index_or self.old.views thread []) a.now c.now → ⊥) }
-        ensures same { OnErr result (self.new ≡ self.old) }
+        ensures made { after_step p.now (state_in p.now self.old) thread c.now ≡ record { state = state_in p.now self.new; done = Stepped.Did result } }
+        ensures choice { choice_of_event result ≡ c.now }
         ensures program { IsOf p.now self.new }
         ensures room { self.old.spare ≤ self.new.spare + 1 }
     {
         let i = thread as usize;
         let view = &mut self.views[i];
-        if !self.memory.legal(view, a, c) {
-            return Err(NoStep);
-        }
         let event = self.memory.access(thread, view, a, c);
         locals::carry_in(&mut self.locals, p, i, &event);
-        self.ended[i] = locals::is_finish(&event);
-        Ok(Stepped::Did { event })
+        self.ended[i] = event.is_finish();
+        event
+    }
+
+    /// Ends a thread whose budget of steps is used up and which isn't at its end, and leaves all else.
+    pub fn end(&mut self, _p: &Program, thread: u32)
+        requires program { IsOf _p.now self.old }
+        requires able { IsSpendable (state_in _p.now self.old) thread }
+        ensures state { state_in _p.now self.new ≡ after_spend (state_in _p.now self.old) thread }
+        ensures program { IsOf _p.now self.new }
+        ensures room { self.new.spare ≡ self.old.spare }
+    {
+        self.ended[thread as usize] = true;
     }
 }

@@ -3,7 +3,8 @@ ghost use Rattle.std.specs.Prelude.{◌≡◌, ℕ, ◌≤◌, length, map, repl
 ghost use Rattle.std.specs.List.{AllByRecursion};
 ghost use Rattle.thread_core.specs.Programs.{IsProperProgram};
 ghost use Rattle.thread_core.specs.Steps.{stack_in, ArePositions};
-ghost use Rattle.view_machine.specs.State.{start_of, values_of};
+ghost use Rattle.views.specs.ThreadView.{zero_view};
+ghost use Rattle.view_machine.specs.State.{start_of, declared_values};
 
 use il_syntax::{Location, Program};
 use sqlite_items::Items;
@@ -29,7 +30,7 @@ pub fn locals(alloc: Global, p: &Program) -> Result<Vec<Local>, NoMemory>
 /// A view of nothing for each thread.
 pub fn views(alloc: Global, places: u32, threads: usize) -> Result<Vec<View>, NoMemory>
     requires { places ≤ 32 }
-    ensures { IfOk result (λ v. v.items ≡ replicate threads (replicate places 0)) }
+    ensures { IfOk result (λ v. v.items ≡ replicate threads (zero_view places)) }
 {
     let mut views = Vec::new(alloc);
     for i in 0..threads {
@@ -40,7 +41,7 @@ pub fn views(alloc: Global, places: u32, threads: usize) -> Result<Vec<View>, No
 
 /// The declared values of locations.
 pub fn values(alloc: Global, locations: &Items<Location>) -> Result<Vec<i64>, NoMemory>
-    ensures { IfOk result (λ v. v.items ≡ values_of locations.now) }
+    ensures { IfOk result (λ v. v.items ≡ declared_values locations.now) }
 {
     let mut values = Vec::new(alloc);
     for location in locations.as_slice() {

@@ -5,18 +5,19 @@ use Rattle.std.proofs.Math.Nat.{mul-le-mul_right}
 use Rattle.std.proofs.lemmas.Bool.{true≢false, cond_both, eq-eqb}
 use Rattle.std.proofs.lemmas.List.{get_or-set_same, length-set}
 use Rattle.std.proofs.lemmas.List.Elements.{All-from_recursion, recursion_from_All}
-use Rattle.values_undef.specs.Access.{choice_of_event, acquires, releases}
+use Rattle.values_undef.specs.Access.{choice_of_event, acquires, releases, is_fence_order}
 use Rattle.values_undef.specs.Journal.{used_steps, entry_steps}
 use Rattle.values_undef.specs.declared.access.Access.{Access}
 use Rattle.values_undef.specs.declared.access.Access.TheVariants as access
 use Rattle.values_undef.specs.declared.access.Choice.{Choice}
 use Rattle.values_undef.specs.declared.access.Choice.TheVariants.{Plain, Message, Place, Take}
 use Rattle.values_undef.specs.declared.access.Event.{Event}
-use Rattle.values_undef.specs.declared.access.Event.TheVariants.{NaRead, NaWrite, Read, Write, Update, Miss, Print, Fail, FailCompare, Finish, Spend}
+use Rattle.values_undef.specs.declared.access.Event.TheVariants.{NaRead, NaWrite, Read, Write, Update, Miss, Fence, Print, Fail, FailCompare, Finish, Spend}
 use Rattle.values_undef.specs.declared.access.Order.{Order}
 use Rattle.values_undef.specs.declared.access.Order.TheVariants.{Rlx, Acq, Rel, AcqRel}
 use Rattle.values_undef.specs.declared.journal.Entry.{Entry}
 use Rattle.il_syntax.specs.declared.program.Program.{Program}
+use Rattle.views.specs.ThreadView.{ThreadView}
 use Rattle.message_memory.specs.declared.message.Message.{Message as TheMessage}
 use Rattle.message_memory.specs.Memory.{Memory, messages, inserted, with_message, last_to, IsWellFormedMemory}
 use Rattle.message_memory.specs.Step.{AdmitsChoice, StepResult, step_result, is_racy, meets_undef, read_at, write_message, update_message}
@@ -28,7 +29,7 @@ use Rattle.thread_core.specs.Steps.{IsProperStack}
 use Rattle.thread_core.proofs.Keeping.{next_proper}
 use Rattle.thread_core.proofs.WellFormedProper.{well_formed_proper}
 use Rattle.view_machine.specs.declared.stepped.Stepped.TheVariants as stepped
-use Rattle.view_machine.specs.State.{State, idle, local_in, view_in, next_in, step_by, Allows, values_of, initial_state}
+use Rattle.view_machine.specs.State.{State, idle, local_in, view_in, next_in, step_by, Allows, declared_values, initial_state}
 use Rattle.view_machine.specs.Runs.{is_spend, after_silent, MakesAccess, MakesEventBy, after_event_by, IsEntry, after_entry, IsRunFrom}
 use Rattle.view_machine.specs.Laws.{IsReached}
 use Rattle.view_machine.proofs.Reached.{all_get, silent_reached, initial_reached, run_reached}
@@ -37,11 +38,11 @@ use Rattle.walker.specs.Progress.{IsWithin}
 use Rattle.walker.proofs.Bounds.{first_within}
 use Rattle.walker.proofs.Entries.{entry_there}
 use Rattle.walker.proofs.Events.{event_is}
-use Rattle.journal_text.specs.Limits.{IsStamp, IsReadOrder, IsWriteOrder, FitsEvent, FitsEntry}
+use Rattle.journal_text.specs.Limits.{IsStamp, IsReadOrder, IsWriteOrder, IsFenceOrder, FitsEvent, FitsEntry}
 use Rattle.walk_limits.specs.Values.{HasEventValues}
-use Rattle.walk_limits.specs.Walks.{WalksFit}
+use Rattle.walk_limits.specs.Walks.{RunsAreFew, RunsFit, WalksFit}
 use Rattle.walk_limits.proofs.RunValues.{runs_have_values}
-use Rattle.walk_limits.proofs.Counts.{walks_short}
+use Rattle.view_machine.proofs.Callers.{runs_short}
 use Rattle.walk_limits.proofs.Stamps.{AreSomeChosen, some_chosen, within_after}
 
 -- ---- what an event names, without its values
@@ -53,6 +54,7 @@ HasEventPlaces p (Read y order v to) = IsReadOrder order × (y < length p.atomic
 HasEventPlaces p (Write y order v from to) = IsWriteOrder order × (y < length p.atomic) × IsStamp from × IsStamp to
 HasEventPlaces p (Update y order old new read to) = (y < length p.atomic) × IsStamp read × IsStamp to
 HasEventPlaces p (Miss y order old read) = (y < length p.atomic) × IsStamp read
+HasEventPlaces p (Fence order) = IsFenceOrder order
 HasEventPlaces p (Print v) = Unit {0}
 HasEventPlaces p (Fail cause) = Unit {0}
 HasEventPlaces p (FailCompare y read) = (y < length p.atomic) × IsStamp read
@@ -66,6 +68,7 @@ fits_event p (Read y order v to) h q = (h.0, h.1, q, h.2)
 fits_event p (Write y order v from to) h q = (h.0, h.1, q, h.2, h.3)
 fits_event p (Update y order old new read to) h q = (h.0, q.0, q.1, h.1, h.2)
 fits_event p (Miss y order old read) h q = (h.0, q, h.1)
+fits_event p (Fence order) h q = h
 fits_event p (Print v) h q = q
 fits_event p (Fail cause) h q = tt
 fits_event p (FailCompare y read) h q = h
@@ -83,6 +86,12 @@ write_order Rlx h = tt
 write_order Acq h = true≢false h
 write_order Rel h = tt
 write_order AcqRel h = true≢false h
+
+fence_order : (order : Order) → is_fence_order order ≡ true → IsFenceOrder order
+fence_order Rlx h = true≢false (sym h)
+fence_order Acq h = tt
+fence_order Rel h = tt
+fence_order AcqRel h = tt
 
 -- ---- one access
 
@@ -108,7 +117,7 @@ record IsMemoryOf (p : Program) (m : Memory) (n : ℕ) : Type 0 where
   within : IsWithin n m
   few : n + 1 ≤ 262160
 
-access_places : (p : Program) (m : Memory) (v : List ℕ) (i : ℕ) (a : Access) (c : Choice) (n : ℕ) → IsMemoryOf p m n → IsProperAccess p a → IsWithin (n + 1) (step_result m v i a c).memory → AdmitsChoice m v a c
+access_places : (p : Program) (m : Memory) (v : ThreadView) (i : ℕ) (a : Access) (c : Choice) (n : ℕ) → IsMemoryOf p m n → IsProperAccess p a → IsWithin (n + 1) (step_result m v i a c).memory → AdmitsChoice m v a c
     → HasEventPlaces p (step_result m v i a c).event
 access_places p m v i (access.NaRead x) Plain n s proper w h = proper
 access_places p m v i (access.NaWrite x value) Plain n s proper w h =
@@ -129,6 +138,7 @@ access_places p m v i (access.Update y order kind) (Take read to) n s proper w h
     let lt : y < length m.atomic = let same = s.atomic in omega (arith, proper, same) in
     let last : IsStamp to = new_stamp m y (n + 1) (update_message m v y order kind (read_at m y read) read to) lt w s.few in
     (proper, omega (arith, last, h.1), last)
+access_places p m v i (access.Fence order) Plain n s proper w h = fence_order order proper
 access_places p m v i (access.Print value) Plain n s proper w h = tt
 access_places p m v i (access.Fail cause) Plain n s proper w h = tt
 access_places p m v i access.Finish Plain n s proper w h = tt
@@ -199,14 +209,21 @@ fit_all p steps (e ∷ more) few less h silent values = (
   fit_all p steps more few less h.1 silent.1 values.1,
 )
 
+pub runs_few : RunsAreFew
+runs_few p entries steps formed less run complete =
+    let ok = well_formed_proper p formed in
+    let short = runs_short p entries steps run complete.within in
+    let most : length p.threads * (steps + 1) ≤ 16 * (steps + 1) = mul-le-mul_right (steps + 1) ok.few_threads in
+    omega (arith, short, most, less)
+
+pub runs_fit : RunsFit
+runs_fit p entries steps formed less run complete takes =
+    let ok = well_formed_proper p formed in
+    let few = runs_few p entries steps formed less run complete in
+    let places = run_places p (initial_state p) entries 0 ok (initial_reached p ok) run (some_chosen p (initial_state p) entries takes) (first_within (declared_values p.na) (declared_values p.atomic)) (omega (arith, few)) in
+    let silent = few_silent p steps entries places complete.within in
+    All-from_recursion (FitsEntry p) entries (fit_all p steps entries ok.few_threads less places silent (recursion_from_All (λ e. HasEventValues e.event) entries (runs_have_values p entries formed run)))
+
 pub walks_fit : WalksFit
 walks_fit p entries order steps formed less run complete turns takes =
-    let ok = well_formed_proper p formed in
-    let short = walks_short p entries order steps complete turns in
-    let most : length p.threads * (steps + 1) ≤ 16 * (steps + 1) = mul-le-mul_right (steps + 1) ok.few_threads in
-    let few : length entries ≤ 262160 = omega (arith, short, most, less) in
-    let places = run_places p (initial_state p) entries 0 ok (initial_reached p ok) run (some_chosen p (initial_state p) entries takes) (first_within (values_of p.na) (values_of p.atomic)) (omega (arith, few)) in
-    let silent = few_silent p steps entries places complete.within in (
-      All-from_recursion (FitsEntry p) entries (fit_all p steps entries ok.few_threads less places silent (recursion_from_All (λ e. HasEventValues e.event) entries (runs_have_values p entries formed run))),
-      few,
-    )
+    (runs_fit p entries steps formed less run complete takes, runs_few p entries steps formed less run complete)

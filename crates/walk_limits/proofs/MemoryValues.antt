@@ -9,16 +9,17 @@ use Rattle.values_undef.specs.declared.arithmetic.Op.TheVariants.{Add as Sum}
 use Rattle.values_undef.specs.declared.access.UpdateKind.{UpdateKind}
 use Rattle.values_undef.specs.declared.access.UpdateKind.TheVariants as kind
 use Rattle.values_undef.specs.declared.access.Access.{Access}
-use Rattle.values_undef.specs.declared.access.Access.TheVariants.{NaRead, NaWrite, Read, Write, Update, Print, Fail, Finish, Spend}
+use Rattle.values_undef.specs.declared.access.Access.TheVariants.{NaRead, NaWrite, Read, Write, Update, Fence, Print, Fail, Finish, Spend}
 use Rattle.values_undef.specs.declared.access.Choice.{Choice}
 use Rattle.values_undef.specs.declared.access.Choice.TheVariants.{Message, Place, Take}
 use Rattle.il_syntax.specs.declared.program.Location.{Location}
+use Rattle.views.specs.ThreadView.{ThreadView}
 use Rattle.message_memory.specs.declared.message.Message.{Message as TheMessage}
 use Rattle.message_memory.specs.declared.message.Versioned.{Versioned}
 use Rattle.message_memory.specs.Memory.{Memory, Messages, messages, location_in, absent_location, message_at, first_message, inserted, with_message, initial_memory}
 use Rattle.message_memory.specs.Step.{StepResult, step_result, is_racy, meets_undef, read_value, read_at, updated, write_message, update_message}
 use Rattle.message_memory.proofs.StepLemmas.{all_inserted}
-use Rattle.view_machine.specs.State.{values_of}
+use Rattle.view_machine.specs.State.{declared_values}
 use Rattle.journal_text.specs.Limits.{Has64Bits, IsValue}
 use Rattle.walk_limits.specs.Values.{HasEventValues}
 use Rattle.walk_limits.proofs.Listed.{all_or, all_set, all_map}
@@ -46,7 +47,7 @@ pub record FitsMemory (m : Memory) : Type 0 where
 messages_fit : (m : Memory) (y : ℕ) → FitsMemory m → FitMessages (messages m y)
 messages_fit m y h = all_or FitMessages m.atomic y [] tt h.atomic
 
-read_value_fits : (m : Memory) (view : List ℕ) (x : ℕ) → FitsMemory m → IsValue (read_value m view x)
+read_value_fits : (m : Memory) (view : ThreadView) (x : ℕ) → FitsMemory m → IsValue (read_value m view x)
 read_value_fits m view x h =
     cond_both (is_racy m view x) Undef (location_in m x).value IsValue (λ e. tt) (λ e. all_or FitsVersioned m.na x absent_location tt h.na)
 
@@ -76,7 +77,7 @@ abbrev pub FitsResult : StepResult → Type 0
 FitsResult r = HasEventValues r.event × FitsMemory r.memory
 
 -- an access that hands over values, with any choice, legal or not
-pub access_fits : (m : Memory) (view : List ℕ) (i : ℕ) (a : Access) (c : Choice) → FitsMemory m → FitsAccess a → FitsResult (step_result m view i a c)
+pub access_fits : (m : Memory) (view : ThreadView) (i : ℕ) (a : Access) (c : Choice) → FitsMemory m → FitsAccess a → FitsResult (step_result m view i a c)
 access_fits m view i (NaRead x) c h q = (read_value_fits m view x h, h)
 access_fits m view i (NaWrite x value) c h q =
     cond_both (is_racy m view x) _ _ FitsResult
@@ -92,6 +93,7 @@ access_fits m view i (Update y order k) (Take read to) h q =
     let old = read_at_fits m y read h in
     let new = updated_value k (read_at m y read).value q old in
     ((old, new), with_message_fits m y (update_message m view y order k (read_at m y read) read to) h new)
+access_fits m view i (Fence order) c h q = (q, record { na = h.na; atomic = h.atomic })
 access_fits m view i (Print n) c h q = (q, record { na = h.na; atomic = h.atomic })
 access_fits m view i (Fail cause) c h q = (tt, record { na = h.na; atomic = h.atomic })
 access_fits m view i Finish c h q = (tt, h)
@@ -102,11 +104,11 @@ access_fits m view i (Update y order k) _ h q = (tt, h)
 
 -- ---- the first memory
 
-values_fit : (locations : List Location) → AllByRecursion FitsLocation locations → AllByRecursion Has64Bits (values_of locations)
+values_fit : (locations : List Location) → AllByRecursion FitsLocation locations → AllByRecursion Has64Bits (declared_values locations)
 values_fit locations h = all_map FitsLocation Has64Bits (λ l. l.value) locations (λ l q. q) h
 
-pub initial_memory_fits : (na atomic : List Location) → AllByRecursion FitsLocation na → AllByRecursion FitsLocation atomic → FitsMemory (initial_memory (values_of na) (values_of atomic))
+pub initial_memory_fits : (na atomic : List Location) → AllByRecursion FitsLocation na → AllByRecursion FitsLocation atomic → FitsMemory (initial_memory (declared_values na) (declared_values atomic))
 initial_memory_fits na atomic h q = record {
-  na = all_map Has64Bits FitsVersioned _ (values_of na) (λ n b. b) (values_fit na h);
-  atomic = all_map Has64Bits FitMessages _ (values_of atomic) (λ n b. (b, tt)) (values_fit atomic q);
+  na = all_map Has64Bits FitsVersioned _ (declared_values na) (λ n b. b) (values_fit na h);
+  atomic = all_map Has64Bits FitMessages _ (declared_values atomic) (λ n b. (b, tt)) (values_fit atomic q);
 }

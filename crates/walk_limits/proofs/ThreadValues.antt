@@ -17,7 +17,7 @@ use Rattle.il_syntax.specs.declared.statement.Atom.{Atom}
 use Rattle.il_syntax.specs.declared.statement.Atom.TheVariants.{Const, Reg}
 use Rattle.il_syntax.specs.declared.statement.Rmw.{Rmw}
 use Rattle.il_syntax.specs.declared.statement.Rmw.TheVariants as rmw
-use Rattle.il_syntax.specs.declared.statement.Stmt.TheOpen.{Skip, Copy, Compute, Load, Store, AtomicLoad, AtomicStore, Update, Print, If, While, Call}
+use Rattle.il_syntax.specs.declared.statement.Stmt.TheOpen.{Skip, Copy, Compute, Load, Store, AtomicLoad, AtomicStore, Update, Fence, Print, If, While, Call}
 use Rattle.il_syntax.specs.declared.program.Function.{Function}
 use Rattle.il_syntax.specs.declared.program.Program.{Program}
 use Rattle.il_syntax.specs.Statements.{Head}
@@ -26,7 +26,7 @@ use Rattle.il_paths.proofs.Resuming.{all_go, all_first}
 use Rattle.thread_core.specs.declared.next.Next.{Next}
 use Rattle.thread_core.specs.declared.next.Next.TheVariants as next
 use Rattle.thread_core.specs.Programs.{function_at}
-use Rattle.thread_core.specs.Frames.{Frame, Stack, blank, evaluated, evaluated_kind, loaded, called, begun, decided, computed, printed, ended, next_at, next_after, next_of, passed, gave, assigned, received_by, received_at, call_register, returned, function_result, advanced_at, advanced, target_of, given_by, told, resumed}
+use Rattle.thread_core.specs.Frames.{Frame, Stack, blank, evaluated, evaluated_kind, loaded, called, begun, decided, computed, next_print, ended, next_at, next_after, next_of, passed, gave, assigned, received_by, received_at, call_register, returned, function_result, advanced_at, advanced, target_of, given_by, told, resumed}
 use Rattle.view_machine.specs.State.{local_after_event}
 use Rattle.journal_text.specs.Limits.{Has64Bits, IsValue}
 use Rattle.walk_limits.specs.Values.{HasEventValues}
@@ -58,6 +58,7 @@ FitsAccess (access.NaWrite x v) = IsValue v
 FitsAccess (access.Read y order) = Unit {0}
 FitsAccess (access.Write y order v) = IsValue v
 FitsAccess (access.Update y order kind) = FitsKind kind
+FitsAccess (access.Fence order) = Unit {0}
 FitsAccess (access.Print n) = Has64Bits n
 FitsAccess (access.Fail cause) = Unit {0}
 FitsAccess access.Finish = Unit {0}
@@ -91,7 +92,7 @@ computed_fits : (o : Option Val) → FitsNext (computed o)
 computed_fits (Some v) = tt
 computed_fits None = tt
 
-printed_fits : (v : Val) → IsValue v → FitsNext (printed v)
+printed_fits : (v : Val) → IsValue v → FitsNext (next_print v)
 printed_fits (Def n) h = h
 printed_fits Undef h = tt
 
@@ -108,6 +109,7 @@ next_at_fits registers depth (Store x a) v h = atom_value registers a v h
 next_at_fits registers depth (AtomicLoad r order y) v h = tt
 next_at_fits registers depth (AtomicStore order y a) v h = atom_value registers a v h
 next_at_fits registers depth (Update r order y kind) v h = kind_fits registers kind v h
+next_at_fits registers depth (Fence order) v h = tt
 next_at_fits registers depth (Print a) v h = printed_fits (evaluated registers a) (atom_value registers a v h)
 next_at_fits registers depth (If a x y) v h = decided_fits (evaluated registers a)
 next_at_fits registers depth (While a x) v h = decided_fits (evaluated registers a)
@@ -190,6 +192,7 @@ advanced_by_fits p s (Store x a) ok h q = h
 advanced_by_fits p s (AtomicLoad r order y) ok h q = h
 advanced_by_fits p s (AtomicStore order y a) ok h q = h
 advanced_by_fits p s (Update r order y kind) ok h q = h
+advanced_by_fits p s (Fence order) ok h q = h
 advanced_by_fits p s (Print a) ok h q = h
 advanced_by_fits p s (If a x y) ok h q = with_top s _ h (passed_fits s.top _ h.top)
 advanced_by_fits p s (While a x) ok h q = with_top s _ h (passed_fits s.top _ h.top)
@@ -213,6 +216,7 @@ given_value (event.Read y order v to) h = h
 given_value (event.Write y order v from to) h = tt
 given_value (event.Update y order old new read to) h = h.0
 given_value (event.Miss y order old read) h = h
+given_value (event.Fence order) h = tt
 given_value (event.Print v) h = tt
 given_value (event.Fail cause) h = tt
 given_value (event.FailCompare y read) h = tt

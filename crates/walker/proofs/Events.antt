@@ -1,17 +1,18 @@
 -- Events, and the accesses that they come from.
-use Rattle.std.proofs.Common.{◌≡◌, ℕ, Bool, true, false, cond, List, length, Some, slice_get, refl, sym, ap, subst, ◌∙◌}
+use Rattle.std.proofs.Common.{◌≡◌, ℕ, Bool, true, false, cond, length, Some, slice_get, refl, sym, ap, subst, ◌∙◌}
 use Rattle.std.proofs.lemmas.Bool.{cond_both}
 use Rattle.values_undef.specs.Access.{choice_of_event, ends_thread, is_atomic_event}
 use Rattle.values_undef.specs.Journal.{is_finish}
 use Rattle.values_undef.specs.declared.access.Access.{Access}
-use Rattle.values_undef.specs.declared.access.Access.TheVariants.{NaRead, NaWrite, Read, Write, Update, Print, Fail, Finish, Spend}
+use Rattle.values_undef.specs.declared.access.Access.TheVariants.{NaRead, NaWrite, Read, Write, Update, Fence, Print, Fail, Finish, Spend}
 use Rattle.values_undef.specs.declared.access.Choice.{Choice}
 use Rattle.values_undef.specs.declared.access.Choice.TheVariants.{Plain, Message, Place, Take}
 use Rattle.values_undef.specs.declared.access.Event.{Event}
 use Rattle.values_undef.specs.declared.access.Event.TheVariants as event
 use Rattle.il_syntax.specs.declared.program.Program.{Program}
+use Rattle.views.specs.ThreadView.{ThreadView}
 use Rattle.message_memory.specs.Memory.{Memory}
-use Rattle.message_memory.specs.Step.{AdmitsChoice, StepResult, step_result, is_racy, meets_undef, read_at}
+use Rattle.message_memory.specs.Step.{AdmitsChoice, IsLegal, StepResult, step_result, is_racy, meets_undef, read_at}
 use Rattle.thread_core.specs.declared.next.Next.{Next}
 use Rattle.thread_core.specs.declared.next.Next.TheVariants as step
 use Rattle.view_machine.specs.declared.stepped.Stepped.TheVariants as stepped
@@ -22,7 +23,7 @@ use Rattle.chooser.specs.Chosen.{chooser_after as asked_after}
 use Rattle.walker.specs.Choices.{candidates_by, IsEventChosen, IsEventChosenBy, chooser_after_event}
 
 -- an access that leaves a choice has an atomic event, and no other has
-atomic_exactly : (m : Memory) (v : List ℕ) (i : ℕ) (a : Access) (c : Choice) → AdmitsChoice m v a c → is_atomic_event (step_result m v i a c).event ≡ leaves_choice a
+atomic_exactly : (m : Memory) (v : ThreadView) (i : ℕ) (a : Access) (c : Choice) → AdmitsChoice m v a c → is_atomic_event (step_result m v i a c).event ≡ leaves_choice a
 atomic_exactly m v i (NaRead x) Plain h = refl
 atomic_exactly m v i (NaWrite x n) Plain h = cond_both (is_racy m v x) _ _ (λ (o : StepResult). is_atomic_event o.event ≡ false) (λ _. refl) (λ _. refl)
 atomic_exactly m v i (Read y order) (Message to) h = refl
@@ -30,6 +31,7 @@ atomic_exactly m v i (Write y order n) (Place from to) h = refl
 atomic_exactly m v i (Update y order kind) (Message to) h =
     cond_both (meets_undef kind (read_at m y to).value) _ _ (λ (o : StepResult). is_atomic_event o.event ≡ true) (λ _. refl) (λ _. refl)
 atomic_exactly m v i (Update y order kind) (Take read to) h = refl
+atomic_exactly m v i (Fence order) Plain h = refl
 atomic_exactly m v i (Print n) Plain h = refl
 atomic_exactly m v i (Fail cause) Plain h = refl
 atomic_exactly m v i Finish Plain h = refl
@@ -76,8 +78,13 @@ ends_is (event.Read y o v to) h = refl
 ends_is (event.Write y o v a b) h = refl
 ends_is (event.Update y o a b c d) h = refl
 ends_is (event.Miss y o v a) h = refl
+ends_is (event.Fence order) h = refl
 ends_is (event.Print v) h = refl
 ends_is (event.Fail cause) h = refl
 ends_is (event.FailCompare y read) h = refl
 ends_is event.Finish h = refl
 ends_is event.Spend h = cc
+
+-- what is legal for a memory and a view is so for the same ones
+pub legal_in : (m m' : Memory) (v v' : ThreadView) (a : Access) (c : Choice) → m ≡ m' → v ≡ v' → IsLegal m v a c → IsLegal m' v' a c
+legal_in m m' v v' a c e f h = subst (λ (x : Memory). IsLegal x v' a c) e (subst (λ (x : ThreadView). IsLegal m x a c) f h)

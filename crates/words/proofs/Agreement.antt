@@ -8,8 +8,8 @@ use Rattle.clap.specs.Simple.{entered, label_of}
 use Rattle.clap.specs.Kinds.{Kinds, or_else}
 use Rattle.clap.specs.declared.error.kind.ErrorKind.TheVariants as kind
 use Rattle.std.specs.Option.{option_map_or}
-use Rattle.words.specs.Spelling.{Setting, Spells, Text}
-use Rattle.words.specs.Options.{Options, Allows, are_new}
+use Rattle.words.specs.Spelling.{Setting, SpellsSettings, WordText}
+use Rattle.words.specs.Options.{Options, AllowsSettings, are_new}
 use Rattle.words.specs.Program.{row_of}
 use Rattle.words.proofs.Steps.{leaf}
 use Rattle.words.proofs.Reading.{IsNoDash, NoDashes, Reads, reads, refuses, reading, given, from_word}
@@ -20,18 +20,18 @@ use Rattle.words.proofs.Values.{PlainValues, plain_after, is_named, are_named}
 use Rattle.words.proofs.App.{Commands, program, program_fault, leaf_of, FindsCommand, find_command, no_words, no_command, command_fault, enters}
 
 -- what the words are
-pub record Taken (commands : Commands) (words : List Text) : Type 0 where
-  pub word : Text
-  pub rest : List Text
+pub record Taken (commands : Commands) (words : List WordText) : Type 0 where
+  pub word : WordText
+  pub rest : List WordText
   pub options : Options
   pub settings : List Setting
   pub is : words ≡ word ∷ rest
   pub command : find (λ c. bytes_eq c.0 word) commands ≡ Some (word, options)
-  pub spells : Spells settings rest
-  pub allows : Allows options settings
+  pub spells : SpellsSettings settings rest
+  pub allows : AllowsSettings options settings
 
 -- what clap has read of words that spell settings
-module _ (command : Text) (options : Options) (settings : List Setting) (words : List Text) where
+module _ (command : WordText) (options : Options) (settings : List Setting) (words : List WordText) where
   given_rows : from_word command options [] None words ≡ given settings [] → are_new [] settings ≡ true → from_word command options [] None words ≡ Some (map row_of settings)
   given_rows read new = read ∙ given_after [] settings ∙ rw new
 
@@ -57,15 +57,15 @@ module _ (command : Text) (options : Options) (settings : List Setting) (words :
       let bad : true ≡ false = sym some ∙ ap (is_missing options) rows_same ∙ allows in absurd cc
   level_takes (refused read not) other is allows = let bad : None ≡ Some other = sym read ∙ is in absurd cc
 
-module _ (name : Text) (commands : Commands) where
-  abbrev pub rows_of_words : List Text → Option (Text × List Row)
+module _ (name : WordText) (commands : Commands) where
+  abbrev pub rows_of_words : List WordText → Option (WordText × List Row)
   rows_of_words words = entered (program name commands) (stop_after [] (map label_of (map leaf_of commands)) words)
 
   no_fault : (k : Kinds) → or_else k [] ≡ [] → k ≡ []
   no_fault [] e = refl
   no_fault (k ∷ ks) e = e
 
-  reads_taken : (word : Text) (words : List Text) (options : Options) (rows : List Row) → find (λ c. bytes_eq c.0 word) commands ≡ Some (word, options) → from_word word options [] None words ≡ Some rows
+  reads_taken : (word : WordText) (words : List WordText) (options : Options) (rows : List Row) → find (λ c. bytes_eq c.0 word) commands ≡ Some (word, options) → from_word word options [] None words ≡ Some rows
       → is_missing options rows ≡ false → rows_of_words (word ∷ words) ≡ Some (word, rows) → Reads word options words → (t : Taken commands (word ∷ words)) × (rows_of_words (word ∷ words) ≡ Some (t.word, map row_of t.settings))
   reads_taken word words options rows command is allowed after (refuses never) = let bad : Some rows ≡ None = sym is ∙ never [] None tt in absurd cc
   reads_taken word words options rows command is allowed after (reads settings spells known read) =
@@ -87,7 +87,7 @@ module _ (name : Text) (commands : Commands) where
         after ∙ ap (λ r. Some (word, r)) parts.1,
       )
 
-  command_taken : (word : Text) (words : List Text) → NoDashes words → IsNoDash word → program_fault name commands (word ∷ words) ≡ [] → FindsCommand word commands
+  command_taken : (word : WordText) (words : List WordText) → NoDashes words → IsNoDash word → program_fault name commands (word ∷ words) ≡ [] → FindsCommand word commands
       → (t : Taken commands (word ∷ words)) × (rows_of_words (word ∷ words) ≡ Some (t.word, map row_of t.settings))
   command_taken word words h first e (inl none) = absurd (no_command name commands word words first none.1 e)
   command_taken word words h first e (inr some) =
@@ -95,15 +95,15 @@ module _ (name : Text) (commands : Commands) where
       let read = level_taken word some.0 [] words (level word some.0 words) fault in
       reads_taken word words some.0 read.0 some.1 read.1 read.2 (enters name commands word some.0 some.2 some.3 words ∙ ap (λ r. Some (word, r)) read.3) (reading word some.0 words h)
 
-  pub words_taken : (words : List Text) → NoDashes words → program_fault name commands words ≡ [] → (t : Taken commands words) × (rows_of_words words ≡ Some (t.word, map row_of t.settings))
+  pub words_taken : (words : List WordText) → NoDashes words → program_fault name commands words ≡ [] → (t : Taken commands words) × (rows_of_words words ≡ Some (t.word, map row_of t.settings))
   words_taken [] h e = absurd (let bad : kind.MissingSubcommand ∷ [] ≡ [] = sym (no_words name commands) ∙ e in cc)
   words_taken (word ∷ words) h e = command_taken word words h.1 h.0 e (find_command word commands)
 
-  command_takes : (word : Text) (words : List Text) (options : Options) (settings : List Setting) → find (λ c. bytes_eq c.0 word) commands ≡ Some (word, options) → Spells settings words → Allows options settings
+  command_takes : (word : WordText) (words : List WordText) (options : Options) (settings : List Setting) → find (λ c. bytes_eq c.0 word) commands ≡ Some (word, options) → SpellsSettings settings words → AllowsSettings options settings
       → list_all is_named options ≡ true → PlainValues options settings → FindsCommand word commands
       → (program_fault name commands (word ∷ words) ≡ []) × (rows_of_words (word ∷ words) ≡ Some (word, map row_of settings))
   command_takes word words options settings command spells allows named plain (inl none) =
-      let bad : ◌≡◌ {A = Option (Text × Options)} (Some (word, options)) None = sym command ∙ none.0 in absurd cc
+      let bad : ◌≡◌ {A = Option (WordText × Options)} (Some (word, options)) None = sym command ∙ none.0 in absurd cc
   command_takes word words options settings command spells allows named plain (inr some) =
       let found : Some (word, some.0) ≡ Some (word, options) = sym some.1 ∙ command in
       let same : some.0 ≡ options = ap (λ o. option_map_or (λ p. p.1) o []) found in
@@ -116,13 +116,13 @@ module _ (name : Text) (commands : Commands) where
         enters name commands word options some.2 by_shape words ∙ ap (λ r. Some (word, r)) passes.1,
       )
 
-  pub words_take : (words : List Text) (t : Taken commands words) → list_all is_named t.options ≡ true → PlainValues t.options t.settings
+  pub words_take : (words : List WordText) (t : Taken commands words) → list_all is_named t.options ≡ true → PlainValues t.options t.settings
       → (program_fault name commands words ≡ []) × (rows_of_words words ≡ Some (t.word, map row_of t.settings))
   words_take words t named plain =
       subst (λ ws. (program_fault name commands ws ≡ []) × (rows_of_words ws ≡ Some (t.word, map row_of t.settings))) (sym t.is)
       (command_takes t.word t.rest t.options t.settings t.command t.spells t.allows named plain (find_command t.word commands))
 
-  pub options_no_dashes : (words : List Text) (t : Taken commands words) → list_all is_named t.options ≡ true → PlainValues t.options t.settings → NoDashes t.rest
+  pub options_no_dashes : (words : List WordText) (t : Taken commands words) → list_all is_named t.options ≡ true → PlainValues t.options t.settings → NoDashes t.rest
   options_no_dashes words t named plain =
       spelled_no_dashes t.word t.options t.settings t.rest (are_named t.word t.options named) t.spells (all_given t.word t.options t.settings t.allows.known)
       (plain_after t.word t.options [] t.settings t.allows.once t.allows.known plain)

@@ -5,7 +5,7 @@ use Rattle.words.specs.Reading.{IsPicks, IsSeed, ListsPicks}
 use Rattle.words.specs.Meaning.{ListsNumbers, GivesDraws, GivesSeed}
 use Rattle.words.specs.Numbers.{AreNumbers}
 use Rattle.words.specs.Options.{value_of}
-use Rattle.words.specs.Spelling.{Setting, Text}
+use Rattle.words.specs.Spelling.{Setting, WordText}
 use Rattle.words.specs.declared.command.Drawing.{Drawing}
 use Rattle.words.specs.declared.command.Drawing.TheVariants.{Seed, Picks}
 use Rattle.words.specs.declared.command.WordsFault.{WordsFault}
@@ -14,7 +14,7 @@ use Rattle.words.specs.declared.command.WordsFault.TheVariants.{Refused}
 abbrev pub Draws : List Setting → Result Drawing WordsFault → Type 0
 Draws os r = MatchResult r (GivesDraws os) (λ e. e ≡ Refused → (d : Drawing) → GivesDraws os d → ⊥)
 
-no_picks : (value : Option Text) (list : List ℕ) → None ≡ value → ListsNumbers 4294967295 value list → ⊥
+no_picks : (value : Option WordText) (list : List ℕ) → None ≡ value → ListsNumbers 4294967295 value list → ⊥
 no_picks value list same h = subst (λ v. ListsNumbers 4294967295 v list → ⊥) same (λ x. x) h
 
 pub draws_seed : (os : List Setting) (r : Result Drawing WordsFault) → None ≡ value_of (codes "picks") os
@@ -27,7 +27,7 @@ draws_seed os (Err e) none h = λ is d s. go is d s
     go is (Seed n) s = h is n s.1
     go is (Picks list) s = no_picks (value_of (codes "picks") os) list none s.1
 
-pub draws_picks : (os : List Setting) (text : Text) (r : Result Drawing WordsFault) → Some text ≡ value_of (codes "picks") os
+pub draws_picks : (os : List Setting) (text : WordText) (r : Result Drawing WordsFault) → Some text ≡ value_of (codes "picks") os
     → MatchResult r (IsPicks os text) (λ e. e ≡ Refused → (ns : List ℕ) → value_of (codes "seed") os ≡ None → AreNumbers 4294967295 text ns → ⊥) → Draws os r
 draws_picks os text (Ok (Seed n)) some h = absurd h.1
 draws_picks os text (Ok (Picks list)) some h = (h.0, subst (λ v. ListsNumbers 4294967295 v list) some h.1)
@@ -37,7 +37,7 @@ draws_picks os text (Err e) some h = λ is d s. go is d s
     go is (Seed n) s = let bad : Some text ≡ None = some ∙ s.0 in absurd cc
     go is (Picks list) s = h is list s.0 (subst (λ v. ListsNumbers 4294967295 v list) (sym some) s.1)
 
-pub picks_alone : (os : List Setting) (text : Text) (r : Result Drawing WordsFault) → None ≡ value_of (codes "seed") os
+pub picks_alone : (os : List Setting) (text : WordText) (r : Result Drawing WordsFault) → None ≡ value_of (codes "seed") os
     → MatchResult r (ListsPicks text) (λ e. e ≡ Refused → (ns : List ℕ) → AreNumbers 4294967295 text ns → ⊥)
     → MatchResult r (IsPicks os text) (λ e. e ≡ Refused → (ns : List ℕ) → value_of (codes "seed") os ≡ None → AreNumbers 4294967295 text ns → ⊥)
 picks_alone os text (Ok d) none h = (sym none, h)

@@ -1,15 +1,16 @@
-pub mod Forms
-pub mod Steps
-pub mod Reading
-pub mod Spelled
-pub mod Level
-pub mod App
-pub mod NumberTexts
-pub mod Allowed
-pub mod Values
-pub mod Agreement
-pub mod Settings
-pub mod Meanings
-pub mod NumberLists
-pub mod DrawingTexts
-pub mod WordTexts
+mod Forms
+mod Steps
+mod Reading
+mod Spelled
+mod Level
+mod App
+mod NumberTexts
+mod Allowed
+mod Values
+mod Agreement
+mod Settings
+mod Meanings
+mod NumberLists
+mod DrawingTexts
+mod WordTexts
+pub mod Callers

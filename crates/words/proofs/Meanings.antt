@@ -16,9 +16,9 @@ use Rattle.clap.specs.declared.parser.matches.ArgMatches.TheViews.{out-ArgMatche
 use Rattle.words.specs.Commands.{commands}
 use Rattle.words.specs.Reading.{ReadsCommand}
 use Rattle.words.specs.Meaning.{ListsNumbers, Means, GivesValues, GivesDraws, GivesNumber, GivesNumbers, name_of, options_of}
-use Rattle.words.specs.Options.{Options, Allows, is_option, value_of}
+use Rattle.words.specs.Options.{Options, AllowsSettings, is_option, value_of}
 use Rattle.words.specs.Program.{clap_program, row_of}
-use Rattle.words.specs.Spelling.{Setting, Text}
+use Rattle.words.specs.Spelling.{Setting, WordText}
 use Rattle.words.specs.declared.command.Command.{Command}
 use Rattle.words.specs.declared.command.Command.TheVariants.{Check, Replay, Walk}
 use Rattle.words.specs.declared.command.Drawing.{Drawing}
@@ -42,7 +42,7 @@ program_is_simple = refl
 program_built : built (clap_program commands) ≡ program (codes "seqopt") commands
 program_built = refl
 
-dashes_none : (words : List Text) → list_any (λ w. bytes_eq w (codes "--")) words ≡ false → NoDashes words
+dashes_none : (words : List WordText) → list_any (λ w. bytes_eq w (codes "--")) words ≡ false → NoDashes words
 dashes_none [] h = tt
 dashes_none (w ∷ ws) h = go (bytes_eq w (codes "--")) refl (dashes_none ws)
   where
@@ -50,17 +50,17 @@ dashes_none (w ∷ ws) h = go (bytes_eq w (codes "--")) refl (dashes_none ws)
     go true e more = absurd (let bad : true ≡ false = rw e at h in cc)
     go false e more = (e, more (rw e at h))
 
-none_dashes : (words : List Text) → NoDashes words → list_any (λ w. bytes_eq w (codes "--")) words ≡ false
+none_dashes : (words : List WordText) → NoDashes words → list_any (λ w. bytes_eq w (codes "--")) words ≡ false
 none_dashes [] h = refl
 none_dashes (w ∷ ws) h = rw h.0 (none_dashes ws h.1)
 
 -- ---- values
 
-one_number : (low high default n m : ℕ) (value : Option Text) → high < 2 ^ 64 → GivesNumber low high default value n → GivesNumber low high default value m → n ≡ m
+one_number : (low high default n m : ℕ) (value : Option WordText) → high < 2 ^ 64 → GivesNumber low high default value n → GivesNumber low high default value m → n ≡ m
 one_number low high default n m None h a b = a ∙ sym b
 one_number low high default n m (Some text) h a b = decimal_injective n m (omega arith) (omega arith) (sym a.0 ∙ b.0)
 
-plain_number : (low high default n : ℕ) (value : Option Text) (text : Text) → high < 2 ^ 64 → GivesNumber low high default value n → value ≡ Some text → IsPlain text
+plain_number : (low high default n : ℕ) (value : Option WordText) (text : WordText) → high < 2 ^ 64 → GivesNumber low high default value n → value ≡ Some text → IsPlain text
 plain_number low high default n None text h a e = absurd cc
 plain_number low high default n (Some t) text h a e =
     let same : t ≡ text = cc in
@@ -79,7 +79,7 @@ command_named Replay = refl
 command_named (Walk order draws steps) = refl
 
 -- a name of a list of options is that of the first, or of the rest
-option_cases : (o : Text × Bool) (os : Options) (name : Text) → is_option (o ∷ os) name ≡ true → (o.0 ≡ name) ⊎ (is_option os name ≡ true)
+option_cases : (o : WordText × Bool) (os : Options) (name : WordText) → is_option (o ∷ os) name ≡ true → (o.0 ≡ name) ⊎ (is_option os name ≡ true)
 option_cases o os name e = go (bytes_eq o.0 name) refl
   where
     go : (t : Bool) → bytes_eq o.0 name ≡ t → (o.0 ≡ name) ⊎ (is_option os name ≡ true)
@@ -87,19 +87,19 @@ option_cases o os name e = go (bytes_eq o.0 name) refl
     go false f = inr (rw f at e)
 
 -- the numbers of a list are given by its text
-one_list : (high : ℕ) (value : Option Text) (ns ms : List ℕ) → high < 2 ^ 64 → GivesNumbers high value ns → GivesNumbers high value ms → ns ≡ ms
+one_list : (high : ℕ) (value : Option WordText) (ns ms : List ℕ) → high < 2 ^ 64 → GivesNumbers high value ns → GivesNumbers high value ms → ns ≡ ms
 one_list high None ns ms h a b = a ∙ sym b
 one_list high (Some text) ns ms h a b = same_numbers high text ns ms h a b
 
-laid : (high : ℕ) (value : Option Text) (ns : List ℕ) → ListsNumbers high value ns → (text : Text) × (value ≡ Some text) × AreNumbers high text ns
+laid : (high : ℕ) (value : Option WordText) (ns : List ℕ) → ListsNumbers high value ns → (text : WordText) × (value ≡ Some text) × AreNumbers high text ns
 laid high None ns h = absurd h
 laid high (Some text) ns h = (text, refl, h)
 
-plain_list : (high : ℕ) (value : Option Text) (ns : List ℕ) (text : Text) → high < 2 ^ 64 → GivesNumbers high value ns → value ≡ Some text → IsPlain text
+plain_list : (high : ℕ) (value : Option WordText) (ns : List ℕ) (text : WordText) → high < 2 ^ 64 → GivesNumbers high value ns → value ≡ Some text → IsPlain text
 plain_list high None ns text h a e = absurd cc
 plain_list high (Some t) ns text h a e = let same : t ≡ text = cc in subst IsPlain same (plain_numbers high t ns h a)
 
-plain_draws : (os : List Setting) (d : Drawing) (value : Text) → GivesDraws os d
+plain_draws : (os : List Setting) (d : Drawing) (value : WordText) → GivesDraws os d
     → (value_of (codes "picks") os ≡ Some value → IsPlain value) × (value_of (codes "seed") os ≡ Some value → IsPlain value)
 plain_draws os (Seed seed) value s = (
   (λ e. let bad : None ≡ Some value = sym s.0 ∙ e in absurd cc),
@@ -159,7 +159,7 @@ one_command os c d same s t = absurd (same_name c d refl same)
 
 -- ---- the words
 
-abbrev taken_of : (words : List Text) (c : Command) → Means words c → Taken commands words
+abbrev taken_of : (words : List WordText) (c : Command) → Means words c → Taken commands words
 taken_of words c m = record {
   word = name_of c;
   rest = m.rest;
@@ -172,7 +172,7 @@ taken_of words c m = record {
 }
 
 -- words that mean a command pass clap, which reads their settings
-pub record Passes (words : List Text) (c : Command) (settings : List Setting) : Type 0 where
+pub record Passes (words : List WordText) (c : Command) (settings : List Setting) : Type 0 where
   pub dashes : list_any (λ w. bytes_eq w (codes "--")) words ≡ false
   pub fault : fault_of (clap_program commands) words ≡ []
   pub rows : subcommand_of (clap_program commands) words ≡ Some (name_of c, map row_of settings)
@@ -182,7 +182,7 @@ name_no_dash Check = refl
 name_no_dash Replay = refl
 name_no_dash (Walk order draws steps) = refl
 
-pub passes : (words : List Text) (c : Command) (m : Means words c) → Passes words c m.settings
+pub passes : (words : List WordText) (c : Command) (m : Means words c) → Passes words c m.settings
 passes words c m =
     let t = taken_of words c m in
     let plain = plain_settings c m.settings m.values in
@@ -200,7 +200,7 @@ name_is m =
     elim (out-ArgMatches m).subcommand as (λ s. option_map (λ b. (out-SubCommand (box_value b)).name.now) s ≡ option_map (λ p. p.0) (subcommand_rows s)) [ None ↦ refl | Some b ↦ refl ]
 
 -- a command that its settings give is what the words mean
-pub meant : (words : List Text) (name : Text) (rows : List Row) (r : Result Command WordsFault) → list_any (λ w. bytes_eq w (codes "--")) words ≡ false
+pub meant : (words : List WordText) (name : WordText) (rows : List Row) (r : Result Command WordsFault) → list_any (λ w. bytes_eq w (codes "--")) words ≡ false
     → fault_of (clap_program commands) words ≡ [] → subcommand_of (clap_program commands) words ≡ Some (name, rows)
     → ((os : List Setting) → rows ≡ map row_of os → ReadsCommand name os r) → IfOk r (λ c. Means words c)
 meant words name rows (Err e) dashes fault is gives = tt
@@ -219,16 +219,16 @@ meant words name rows (Ok c) dashes fault is gives =
       settings = t.settings;
       first = t.is ∙ ap (λ w. w ∷ t.rest) (sym names ∙ sym given.0);
       spells = t.spells;
-      allows = subst (λ os. Allows os t.settings) options t.allows;
+      allows = subst (λ os. AllowsSettings os t.settings) options t.allows;
       values = given.1;
     }
 
 -- and nothing else is
-pub only : (words : List Text) (c : Command) (m : Means words c) (name : Text) (rows : List Row) (r : Result Command WordsFault) → subcommand_of (clap_program commands) words ≡ Some (name, rows)
+pub only : (words : List WordText) (c : Command) (m : Means words c) (name : WordText) (rows : List Row) (r : Result Command WordsFault) → subcommand_of (clap_program commands) words ≡ Some (name, rows)
     → ((os : List Setting) → rows ≡ map row_of os → ReadsCommand name os r) → MatchResult r (λ d. d ≡ c) (λ e. e ≡ NoMemory)
 only words c m name rows r is gives = go r (gives m.settings same_rows)
   where
-    same : ◌≡◌ {A = Option (Text × List Row)} (Some (name, rows)) (Some (name_of c, map row_of m.settings))
+    same : ◌≡◌ {A = Option (WordText × List Row)} (Some (name, rows)) (Some (name_of c, map row_of m.settings))
     same = sym is ∙ (passes words c m).rows
 
     same_rows : rows ≡ map row_of m.settings
@@ -242,10 +242,10 @@ only words c m name rows r is gives = go r (gives m.settings same_rows)
     go (Err NoMemory) given = refl
     go (Err Refused) given = absurd (given refl c (sym names) m.values)
 
-pub matched : (m : ArgMatches) (name : Text) (rows : List Row) → Some name ≡ subcommand_name_of m → Some rows ≡ option_map (λ p. p.1) (subcommand_rows_of m) → subcommand_rows_of m ≡ Some (name, rows)
+pub matched : (m : ArgMatches) (name : WordText) (rows : List Row) → Some name ≡ subcommand_name_of m → Some rows ≡ option_map (λ p. p.1) (subcommand_rows_of m) → subcommand_rows_of m ≡ Some (name, rows)
 matched m name rows n r = go (subcommand_rows_of m) (n ∙ name_is m) r
   where
-    go : (s : Option (Text × List Row)) → Some name ≡ option_map (λ p. p.0) s → Some rows ≡ option_map (λ p. p.1) s → s ≡ Some (name, rows)
+    go : (s : Option (WordText × List Row)) → Some name ≡ option_map (λ p. p.0) s → Some rows ≡ option_map (λ p. p.1) s → s ≡ Some (name, rows)
     go None a b = absurd cc
     go (Some p) a b =
         let names : name ≡ p.0 = cc in
@@ -271,10 +271,10 @@ same_rows (o ∷ os) (p ∷ ps) e =
     ap₂ (λ x xs. x ∷ xs) (same_row o p head) (same_rows os ps tail)
 
 -- words mean one command
-pub one_meaning : (words : List Text) (c d : Command) → Means words c → Means words d → c ≡ d
+pub one_meaning : (words : List WordText) (c d : Command) → Means words c → Means words d → c ≡ d
 one_meaning words c d m n = one_command m.settings c d names m.values (subst (λ os. GivesValues os d) (sym same_settings) n.values)
   where
-    same : ◌≡◌ {A = Option (Text × List Row)} (Some (name_of c, map row_of m.settings)) (Some (name_of d, map row_of n.settings))
+    same : ◌≡◌ {A = Option (WordText × List Row)} (Some (name_of c, map row_of m.settings)) (Some (name_of d, map row_of n.settings))
     same = sym (passes words c m).rows ∙ (passes words d n).rows
 
     names : name_of c ≡ name_of d

@@ -1,7 +1,7 @@
 -- The commands and their options.
 use Rattle.std.specs.Prelude.{false, List, [], ◌∷◌, codes}
 use Rattle.words.specs.Options.{Options}
-use Rattle.words.specs.Spelling.{Text}
+use Rattle.words.specs.Spelling.{WordText}
 
 abbrev pub check_options : Options
 check_options = []
@@ -13,5 +13,5 @@ abbrev pub replay_options : Options
 replay_options = []
 
 -- each command's name and options
-abbrev pub commands : List (Text × Options)
+abbrev pub commands : List (WordText × Options)
 commands = (codes "check", check_options) ∷ ((codes "walk", walk_options) ∷ ((codes "replay", replay_options) ∷ []))

@@ -2,14 +2,14 @@
 use Rattle.std.specs.Prelude.{◌≡◌, ℕ, List, [], ◌∷◌, Option, Some, None, codes}
 use Rattle.words.specs.Commands.{check_options, replay_options, walk_options}
 use Rattle.words.specs.Numbers.{IsNumber, AreNumbers}
-use Rattle.words.specs.Options.{Allows, Options, value_of}
-use Rattle.words.specs.Spelling.{Setting, Spells, Text}
+use Rattle.words.specs.Options.{AllowsSettings, Options, value_of}
+use Rattle.words.specs.Spelling.{Setting, SpellsSettings, WordText}
 use Rattle.words.specs.declared.command.Command.{Command}
 use Rattle.words.specs.declared.command.Command.TheVariants.{Check, Replay, Walk}
 use Rattle.words.specs.declared.command.Drawing.{Drawing}
 use Rattle.words.specs.declared.command.Drawing.TheVariants.{Seed, Picks}
 
-abbrev pub name_of : Command → Text
+abbrev pub name_of : Command → WordText
 name_of Check = codes "check"
 name_of (Walk order draws steps) = codes "walk"
 name_of Replay = codes "replay"
@@ -20,17 +20,17 @@ options_of (Walk order draws steps) = walk_options
 options_of Replay = replay_options
 
 -- the number that a value gives, from low to high, or the default where the option is left out
-abbrev pub GivesNumber : ℕ → ℕ → ℕ → Option Text → ℕ → Type 0
+abbrev pub GivesNumber : ℕ → ℕ → ℕ → Option WordText → ℕ → Type 0
 GivesNumber low high default None n = n ≡ default
 GivesNumber low high default (Some text) n = IsNumber low high text n
 
 -- the numbers that a value lists, each from 0 to high, or none where the option is left out
-abbrev pub GivesNumbers : ℕ → Option Text → List ℕ → Type 0
+abbrev pub GivesNumbers : ℕ → Option WordText → List ℕ → Type 0
 GivesNumbers high None ns = ns ≡ []
 GivesNumbers high (Some text) ns = AreNumbers high text ns
 
 -- the numbers that a value lists, each from 0 to high, of an option that is there
-abbrev pub ListsNumbers : ℕ → Option Text → List ℕ → Type 0
+abbrev pub ListsNumbers : ℕ → Option WordText → List ℕ → Type 0
 ListsNumbers high None ns = ⊥
 ListsNumbers high (Some text) ns = AreNumbers high text ns
 
@@ -58,10 +58,10 @@ GivesValues settings (Walk order draws steps) = GivesOrder settings order × Giv
 GivesValues settings Replay = Unit {0}
 
 -- the first word is the command, and the rest spell settings that its options allow and that give its values
-pub record Means (words : List Text) (command : Command) : Type 0 where
-  pub rest : List Text
+pub record Means (words : List WordText) (command : Command) : Type 0 where
+  pub rest : List WordText
   pub settings : List Setting
   pub first : words ≡ name_of command ∷ rest
-  pub spells : Spells settings rest
-  pub allows : Allows (options_of command) settings
+  pub spells : SpellsSettings settings rest
+  pub allows : AllowsSettings (options_of command) settings
   pub values : GivesValues settings command

@@ -2,18 +2,18 @@
 use Rattle.std.specs.Prelude.{◌++◌, ℕ, List, [], ◌∷◌, codes}
 
 -- the bytes of a word
-abbrev pub Text : Type 0
-Text = List ℕ
+abbrev pub WordText : Type 0
+WordText = List ℕ
 
 -- an option that was given, and its value
 pub record Setting : Type 0 where
-  pub name : Text
-  pub value : Text
+  pub name : WordText
+  pub value : WordText
 
 -- each setting in turn, in two words as `--name value` or in one as `--name=value`
-pub data Spells : List Setting → List Text → Type 0 where
-  nothing : Spells [] []
-  apart : (name value : Text) {settings : List Setting} {words : List Text} → Spells settings words
-      → Spells (record { name = name; value = value } ∷ settings) ((codes "--" ++ name) ∷ (value ∷ words))
-  joined : (name value : Text) {settings : List Setting} {words : List Text} → Spells settings words
-      → Spells (record { name = name; value = value } ∷ settings) ((codes "--" ++ (name ++ (codes "=" ++ value))) ∷ words)
+pub data SpellsSettings : List Setting → List WordText → Type 0 where
+  nothing : SpellsSettings [] []
+  apart : (name value : WordText) {settings : List Setting} {words : List WordText} → SpellsSettings settings words
+      → SpellsSettings (record { name = name; value = value } ∷ settings) ((codes "--" ++ name) ∷ (value ∷ words))
+  joined : (name value : WordText) {settings : List Setting} {words : List WordText} → SpellsSettings settings words
+      → SpellsSettings (record { name = name; value = value } ∷ settings) ((codes "--" ++ (name ++ (codes "=" ++ value))) ∷ words)

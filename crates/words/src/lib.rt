@@ -14,6 +14,3 @@ mod read;
 pub use command::{Command, Drawing, WordsFault};
 pub use laws::words_mean_one_command;
 pub use read::read_words;
-
-#[cfg(test)]
-mod tests;

@@ -1,7 +1,8 @@
-use Rattle.std.proofs.Common.{◌≡◌, ◌<◌, [], length, ap, sym, ◌∙◌, subst, arith}
+use Rattle.std.proofs.Common.{◌≡◌, ◌<◌, length, ap, sym, ◌∙◌, subst, arith}
 use Rattle.std.proofs.Math.ListN.{length-set}
 use Rattle.std.proofs.lemmas.List.{get_or_default}
-use Rattle.message_memory.specs.Memory.{IsClosed}
+use Rattle.views.specs.ThreadView.{no_view}
+use Rattle.message_memory.specs.Memory.{IsClosedView}
 use Rattle.message_memory.specs.History.{MemoryState}
 use Rattle.message_memory.proofs.HistoryLemmas.{well_formed_after, all_at}
 use Rattle.message_memory.proofs.StepLaws.{keep_locations}
@@ -9,14 +10,14 @@ use Rattle.view_machine.specs.Held.{Held}
 use Rattle.view_machine.proofs.Propers.{proper_in}
 use Rattle.view_machine.proofs.machine.Machine.access.Goals as goal
 
-pub invariant_of-self-2 : goal.invariant_of-self-2
-invariant_of-self-2 g c =
+pub invariant_of-self : goal.invariant_of-self
+invariant_of-self g c =
     let s : MemoryState = record { memory = g.M.MessageMemory.contents c.self.inside.memory; views = c.self.inside.views.items } in
     let there : c.args.thread < length s.views = omega (arith, c.requires.there, c.self.invariant.views, ap (λ (h : Held). length h.locals) c.self.view_is) in
     let na : length s.memory.na ≡ length c.args.p.now.na = ap (λ (h : Held). length h.memory.na) c.self.view_is ∙ c.requires.program.na in
     let atomic : length s.memory.atomic ≡ length c.args.p.now.atomic = ap (λ (h : Held). length h.memory.atomic) c.self.view_is ∙ c.requires.program.atomic in
     let proper = proper_in c.args.p.now s.memory c.args.a.now na atomic c.requires.named in
-    let seen = c.index_mut-view.ensures.value ∙ get_or_default s.views c.args.thread c.index_mut-view.result.now [] there in
+    let seen = c.index_mut-view.ensures.value ∙ get_or_default s.views c.args.thread c.index_mut-view.result.now no_view there in
     record {
       views = length-set s.views c.args.thread c.access-event.new.view ∙ c.self.invariant.views ∙ sym c.carry_in.ensures.length;
       ended = length-set c.self.inside.ended.items c.args.thread c.is_finish.result ∙ c.self.invariant.ended ∙ sym c.carry_in.ensures.length;
@@ -30,8 +31,8 @@ returns-clause-program g c =
     let na : length s.memory.na ≡ length c.args.p.now.na = ap (λ (h : Held). length h.memory.na) c.self.view_is ∙ c.requires.program.na in
     let atomic : length s.memory.atomic ≡ length c.args.p.now.atomic = ap (λ (h : Held). length h.memory.atomic) c.self.view_is ∙ c.requires.program.atomic in
     let proper = proper_in c.args.p.now s.memory c.args.a.now na atomic c.requires.named in
-    let seen = c.index_mut-view.ensures.value ∙ get_or_default s.views c.args.thread c.index_mut-view.result.now [] there in
-    let closed = subst (IsClosed s.memory) (sym seen) (all_at (IsClosed s.memory) s.views c.args.thread there c.self.invariant.well_formed.closed) in
+    let seen = c.index_mut-view.ensures.value ∙ get_or_default s.views c.args.thread c.index_mut-view.result.now no_view there in
+    let closed = subst (IsClosedView s.memory) (sym seen) (all_at (IsClosedView s.memory) s.views c.args.thread there c.self.invariant.well_formed.closed) in
     let step = c.access-event.ensures.step in
     let k = keep_locations s.memory (g.M.MessageMemory.contents c.access-event.new.self) c.index_mut-view.result.now c.access-event.new.view c.args.thread c.args.a.now c.args.c.now c.access-event.result c.self.invariant.well_formed.well_formed closed proper step in
     record {

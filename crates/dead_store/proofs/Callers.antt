@@ -1,0 +1,2 @@
+-- What a caller's proof needs of this crate.
+pub use Rattle.dead_store.proofs.UndeadLaws.{undead_is_one, undead_fits}

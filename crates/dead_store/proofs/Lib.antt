@@ -1,0 +1,4 @@
+pub mod SetLaws
+pub mod OverwrittenLaws
+pub mod UndeadLaws
+pub mod Callers

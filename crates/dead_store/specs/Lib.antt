@@ -1,0 +1,4 @@
+pub mod Overwritten
+pub mod Backward
+pub mod Undead
+pub mod Laws

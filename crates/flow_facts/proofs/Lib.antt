@@ -1,0 +1,10 @@
+pub mod LevelLaws
+pub mod RowLaws
+pub mod KeptLaws
+pub mod TableLaws
+pub mod Round
+pub mod RoundSteps
+pub mod Settled
+pub mod GivenLaws
+pub mod ColumnLaws
+pub mod Callers

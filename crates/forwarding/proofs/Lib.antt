@@ -1,0 +1,4 @@
+pub mod BestLaws
+pub mod ForwardLaws
+pub mod ForwardFits
+pub mod Callers

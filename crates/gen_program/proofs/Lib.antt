@@ -1,0 +1,4 @@
+pub mod Steps
+pub mod Numbered
+pub mod Fits
+pub mod WellFormed

@@ -1,0 +1,6 @@
+use Rattle.std.proofs.Common.{◌≡◌}
+use Rattle.gen_program.specs.Generated.{names_of_letter}
+use Rattle.gen_program.proofs.names.names.Given as goal
+
+abbrev pub invariant-loop-number : goal.invariant-loop-number
+invariant-loop-number l = l.names ≡ names_of_letter l.letter l.number

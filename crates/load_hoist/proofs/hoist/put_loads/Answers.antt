@@ -1,0 +1,25 @@
+use Rattle.std.proofs.Common.{◌≡◌, ◌+◌, ◌-◌, suc, sym, ◌∙◌, arith}
+use Rattle.il_paths.specs.Tree.{tree_of}
+use Rattle.load_hoist.proofs.PutLoads.{step_put, step_skip}
+use Rattle.load_hoist.proofs.hoist.put_loads.Goals as goal
+use Rattle.load_hoist.proofs.hoist.put_loads.Goals.{then-gets_load+in_ok-put_load+in_ok-push, else-gets_load}
+
+pub loop-x-preserved : goal.loop-x-preserved
+loop-x-preserved c =
+    let names = c.args.names.now in
+    let body = tree_of c.args.body.now in
+    let inside = c.args.inside.now in
+    let n = c.args.na in
+    let x = c.loop-x.x in
+    let g = c.loop-x.growth in
+    let old = c.loop-x.invariant in
+    let test = c.loop-x-test.true in
+    let more : n - x ≡ suc (n - (x + 1)) = omega (arith, test) in
+    elim c.if-gets_load.branch [
+      | then-gets_load+in_ok-put_load+in_ok-push w ↦
+          let s = step_put names body inside (n - x) (n - (x + 1)) x g c.if-gets_load.growth more c.loop-x.within c.if-gets_load.within c.loop-x.kept c.if-gets_load.kept (sym c.gets_load.ensures ∙ w.if-gets_load.true) (w.growth-is ∙ w.in_ok-put_load.ensures.growth) (w.within-is ∙ w.in_ok-push.ensures.ok) (w.kept-is ∙ w.in_ok-put_load.ensures.kept) in
+          record { within = s.locations ∙ old.within; growth = s.growth ∙ old.growth; kept = s.loads_put ∙ old.kept }
+      | else-gets_load w ↦
+          let s = step_skip names body inside (n - x) (n - (x + 1)) x g c.if-gets_load.growth more c.loop-x.within c.if-gets_load.within c.loop-x.kept c.if-gets_load.kept (sym c.gets_load.ensures ∙ w.if-gets_load.false) w.growth-is w.within-is w.kept-is in
+          record { within = s.locations ∙ old.within; growth = s.growth ∙ old.growth; kept = s.loads_put ∙ old.kept }
+    ]

@@ -1,0 +1,9 @@
+pub mod Images
+pub mod Owners
+pub mod Histories
+pub mod Plain
+pub mod Atomic
+pub mod NonAtomic
+pub mod Stores
+pub mod Openings
+pub mod States

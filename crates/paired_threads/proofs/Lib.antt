@@ -1,0 +1,10 @@
+pub mod Beside
+pub mod Below
+pub mod Pending
+pub mod Wants
+pub mod GoOn
+pub mod FactLaws
+pub mod Calls
+pub mod Working
+pub mod Stacks
+pub mod Stepping

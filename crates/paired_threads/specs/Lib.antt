@@ -1,0 +1,9 @@
+pub mod Values
+pub mod Functions
+pub mod Frames
+pub mod Facts
+pub mod Next
+pub mod Wants
+pub mod Calls
+pub mod Stacks
+pub mod Laws

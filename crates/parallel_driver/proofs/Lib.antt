@@ -1,0 +1,2 @@
+pub mod NeighbourLaws
+pub mod OkLaws

@@ -1,0 +1,11 @@
+pub mod Forward
+pub mod Tabled
+pub mod Backward
+pub mod AfterTable
+pub mod TreeWalks
+pub mod YesNo
+pub mod MeetLaws
+pub mod TreeSteps
+pub mod SitedSteps
+pub mod ExitLaws
+pub mod Callers

@@ -1,0 +1,9 @@
+pub mod Traces
+pub mod Refining
+pub mod Printing
+pub mod Keeping
+pub mod Ahead
+pub mod Counting
+pub mod Playings
+pub mod Ends
+pub mod Examples

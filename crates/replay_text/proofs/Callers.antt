@@ -1,0 +1,3 @@
+-- What proofs of other crates use.
+pub use Rattle.replay_text.proofs.OneAnswer.{one_refusal, one_replay, replay_unrefused}
+pub use Rattle.replay_text.proofs.ReadBack.{report_read}

@@ -1,0 +1,2 @@
+-- What the proofs of other crates use.
+pub use Rattle.run_choices.proofs.Appending.{used_more, ended_more, spent_more, fails_more}

@@ -1,0 +1,4 @@
+pub mod Complete
+pub mod Candidates
+pub mod Drawn
+pub mod Laws

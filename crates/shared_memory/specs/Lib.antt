@@ -1,0 +1,6 @@
+pub mod Slot
+pub mod Answers
+pub mod Turns
+pub mod Passes
+pub mod Lending
+pub mod Laws

@@ -1,0 +1,7 @@
+-- What the proofs of other crates use.
+pub use Rattle.thread_core.proofs.Keeping.{next_proper, begun_proper, advanced_proper, resumed_proper}
+pub use Rattle.thread_core.proofs.WellFormedProper.{well_formed_proper}
+pub use Rattle.thread_core.proofs.EachHead.{HasEachFrame, HasEach, each_begun, each_advanced, each_resumed}
+pub use Rattle.thread_core.proofs.Asking.{asks_by_head, set_others, told_others}
+pub use Rattle.thread_core.proofs.Silent.{one_more_silent, after_one_more}
+pub use Rattle.thread_core.proofs.Placing.{all_got}

@@ -1,0 +1,6 @@
+//! Rows of the shared memory and of the runner, in real threads: what no clause says of them is that workers run
+//! beside each other, and that calls return.
+#![tactic(auto)]
+
+#[cfg(test)]
+mod tests;

@@ -1,0 +1,338 @@
+//! Accesses by one thread and by two, and programs whose threads wait for each other.
+ghost use Rattle.std.specs.Prelude.{◌≡◌, ℕ, ◌<◌, ◌≤◌, IsTrue, length, slice_index_or};
+ghost use Rattle.message_memory.specs.Step.{IsProper};
+ghost use Rattle.shared_memory.specs.Slot.{first_memory, params_for};
+ghost use Rattle.shared_memory.specs.Passes.{PassValue};
+ghost use Rattle.thread_core.specs.Programs.{IsProperProgram};
+ghost use Rattle.threads_rows.specs.Each.{IsReadyPass, IsSamePass};
+
+use chooser::Draw;
+use il_syntax::{Atom, Block, Function, Location, Name, Program, Start, Stmt, well_formed};
+use message_memory::PlainMemory;
+use shared_memory::{Pass, Shared};
+use sqlite_items::Items;
+use std::alloc::{AllocError, Global};
+use std::sync::Wait;
+use std::sync::atomic::{AtomicU64, Ordering};
+use std::test::Fail;
+use std::thread;
+use std::thread::Threads;
+use threaded_runner::{Gate, run_program};
+use values_undef::{Access, Cause, Ending, Entry, Event, Journal, NoMemory, Order, Val, ending_of};
+
+fn list<T: Drop, const N: usize>(alloc: Global, items: [T; N]) -> Result<Items<T>, AllocError> {
+    Ok(Items::from_vec(Vec::from_array(alloc, items)?))
+}
+
+fn name(alloc: Global, letter: u8) -> Result<Name, AllocError> {
+    list(alloc, [letter])
+}
+
+fn location(alloc: Global, letter: u8) -> Result<Location, AllocError> {
+    Ok(Location {
+        name: name(alloc, letter)?,
+        value: 0,
+    })
+}
+
+fn start(alloc: Global, function: u32) -> Result<Start, AllocError> {
+    Ok(Start {
+        function,
+        args: list(alloc, [])?,
+    })
+}
+
+/// `store rlx y, 1; r = load rlx z; print r;`
+fn half(alloc: Global, letter: u8, y: u32, z: u32) -> Result<Function, AllocError> {
+    let statements = [
+        Stmt::AtomicStore {
+            order: Order::Rlx,
+            y,
+            a: Atom::Const(1),
+        },
+        Stmt::AtomicLoad {
+            r: 0,
+            order: Order::Rlx,
+            y: z,
+        },
+        Stmt::Print { a: Atom::Reg(0) },
+    ];
+    Ok(Function {
+        name: name(alloc, letter)?,
+        params: 0,
+        registers: list(alloc, [name(alloc, b'r')?])?,
+        body: Block {
+            statements: list(alloc, statements)?,
+        },
+        result: Atom::Const(0),
+    })
+}
+
+/// Store buffering, of two threads.
+fn store_buffering(alloc: Global) -> Result<Program, AllocError> {
+    Ok(Program {
+        na: list(alloc, [])?,
+        atomic: list(alloc, [location(alloc, b'a')?, location(alloc, b'b')?])?,
+        functions: list(alloc, [half(alloc, b'p', 0, 1)?, half(alloc, b'q', 1, 0)?])?,
+        threads: list(alloc, [start(alloc, 0)?, start(alloc, 1)?])?,
+    })
+}
+
+// ---- one access of each pass
+
+/// Whether the access is one that the memory of the program has.
+fn is_proper(p: &Program, a: &Access) -> bool
+    ensures { IsTrue result → IsProper (first_memory (params_for p.now 8)) a.now }
+{
+    match a {
+        Access::Read { y, order } => (*y as usize) < p.atomic.len() && !order.releases(),
+        Access::Write { y, order, .. } => (*y as usize) < p.atomic.len() && !order.acquires(),
+        Access::Fail { .. } => true,
+        _ => false,
+    }
+}
+
+/// Makes an access with each of the passes of two threads, in so many threads.
+fn access_each<R: Threads + Wait + Sync>(
+    rt: &R,
+    shared: &Shared<PlainMemory>,
+    passes: &mut [Pass<PlainMemory>],
+    threads: usize,
+    first: &Access,
+    second: &Access,
+)
+    requires some { 0 < threads }
+    requires first { IsProper (first_memory shared.now.params) first.now }
+    requires second { IsProper (first_memory shared.now.params) second.now }
+    requires ready { (k : ℕ) (pass : PassValue) → k < length passes.old → IsReadyPass shared.now (slice_index_or passes.old k pass) }
+    ensures { (k : ℕ) (pass : PassValue) → k < length passes.old → IsSamePass shared.now (slice_index_or passes.old k pass) (slice_index_or passes.new k pass) }
+{
+    thread::for_each_mut(
+        rt,
+        passes,
+        threads,
+        &|_, pass: &mut Pass<PlainMemory>|
+            requires { IsProper (first_memory shared.now.params) first.now × IsProper (first_memory shared.now.params) second.now × IsReadyPass shared.now pass.now }
+            ensures { IsSamePass shared.entry.now pass.entry.now pass.exit.now }
+        {
+            let thread = pass.thread();
+            let a = if thread == 0 { first } else { second };
+            shared.access(rt, pass, 0, a, &mut Draw::new(3, thread));
+        },
+    );
+}
+
+/// The journal of one access of each thread, made in so many threads.
+fn each_once<R: Threads + Wait + Sync>(
+    rt: &R,
+    alloc: Global,
+    p: &Program,
+    threads: usize,
+    first: &Access,
+    second: &Access,
+) -> Result<Journal, NoMemory>
+    requires some { 0 < threads }
+    requires few_na { length p.now.na ≤ 16 }
+    requires few_atomic { length p.now.atomic ≤ 16 }
+    requires two { length p.now.threads ≡ 2 }
+    requires first { IsProper (first_memory (params_for p.now 8)) first.now }
+    requires second { IsProper (first_memory (params_for p.now 8)) second.now }
+{
+    let (shared, mut passes) = Shared::<PlainMemory>::make(alloc, p, 8)?;
+    access_each(rt, &shared, passes.lent(), threads, first, second);
+    Ok(shared.close(passes))
+}
+
+/// The journal of one access of each thread of store buffering, in so many threads.
+fn row<R: Threads + Wait + Sync>(
+    rt: &R,
+    alloc: Global,
+    threads: usize,
+    first: &Access,
+    second: &Access,
+) -> Result<Journal, Fail> {
+    let p = store_buffering(alloc)?;
+    let small = p.na.len() <= 16 && p.atomic.len() <= 16 && p.threads.len() == 2;
+    if !small || threads == 0 || !is_proper(&p, first) || !is_proper(&p, second) {
+        return Err("no such row".into());
+    }
+    Ok(each_once(rt, alloc, &p, threads, first, second)?)
+}
+
+const WRITE: Access = Access::Write {
+    y: 0,
+    order: Order::Rlx,
+    v: Val::Def(1),
+};
+
+const READ: Access = Access::Read {
+    y: 0,
+    order: Order::Rlx,
+};
+
+/// The write of thread 0, whatever came before it.
+fn wrote() -> Entry {
+    let event = Event::Write {
+        y: 0,
+        order: Order::Rlx,
+        v: Val::Def(1),
+        from: 1048576,
+        to: 2097152,
+    };
+    Entry {
+        thread: 0,
+        silent: 0,
+        event,
+    }
+}
+
+/// The read of thread 1, which takes the first message whether or not there is a second.
+fn found_first() -> Entry {
+    let event = Event::Read {
+        y: 0,
+        order: Order::Rlx,
+        v: Val::Def(0),
+        to: 0,
+    };
+    Entry {
+        thread: 1,
+        silent: 0,
+        event,
+    }
+}
+
+/// A write, and a read of an older message, by one thread.
+#[test]
+fn a_write_and_a_stale_read(rt: HostRuntime) -> Result<(), Fail> {
+    let journal = row(&rt, rt.alloc(), 1, &WRITE, &READ)?;
+    let want = [wrote(), found_first()];
+    assert_eq!(rt; journal.entries.as_slice(), want.as_slice());
+    Ok(())
+}
+
+/// Each pass in a thread of its own: the journal has the same entries, in either order.
+#[test]
+fn each_pass_in_a_thread_of_its_own(rt: HostRuntime) -> Result<(), Fail> {
+    let journal = row(&rt, rt.alloc(), 2, &WRITE, &READ)?;
+    let (want, other) = ([wrote(), found_first()], [found_first(), wrote()]);
+    let entries = journal.entries.as_slice();
+    assert!(rt; entries == want.as_slice() || entries == other.as_slice());
+    Ok(())
+}
+
+/// After a failure nobody makes an access.
+#[test]
+fn a_failure_stops_the_others(rt: HostRuntime) -> Result<(), Fail> {
+    let failing = Access::Fail {
+        cause: Cause::Print,
+    };
+    let journal = row(&rt, rt.alloc(), 1, &failing, &READ)?;
+    assert_eq!(rt; journal.entries.len(), 1);
+    assert!(rt; journal.entries[0].event.is_failure());
+    Ok(())
+}
+
+// ---- gates
+
+/// The journal of store buffering, if its program may be run.
+fn run_through<R: Threads + Wait + Sync, G: Gate + Sync>(
+    rt: &R,
+    alloc: Global,
+    gate: &G,
+) -> Result<Journal, Fail> {
+    let p = store_buffering(alloc)?;
+    if !is_runnable(&p) {
+        return Err("not well-formed".into());
+    }
+    Ok(run_program::<PlainMemory, G, R>(rt, alloc, &p, 7, 1000, gate)?)
+}
+
+/// Whether the program may be run.
+fn is_runnable(p: &Program) -> bool
+    ensures proper { IsTrue result → IsProperProgram p.now }
+    ensures some { IsTrue result → 1 ≤ length p.now.threads }
+{
+    thread_core::laws::well_formed_programs_are_proper();
+    well_formed(p) && p.threads.len() == 2
+}
+
+/// Waits, for a while, until the flag is up; if it stays down, marks `late`.
+fn wait_for(flag: &AtomicU64, late: &AtomicU64) {
+    for _ in 0..1_000_000_000u64 {
+        if flag.load(Ordering::SeqCst) == 1 {
+            return;
+        }
+    }
+    late.store(1, Ordering::SeqCst);
+}
+
+/// Holds thread 0 before its first access until thread 1 has made two.
+#[derive(Drop)]
+struct Behind<'a> {
+    made: &'a AtomicU64,
+    late: &'a AtomicU64,
+}
+
+impl Gate for Behind<'_> {
+    fn before(&self, thread: u32, own: u64) {
+        if thread == 1 && own == 2 {
+            self.made.store(1, Ordering::SeqCst);
+        }
+        if thread == 0 && own == 0 {
+            wait_for(self.made, self.late);
+        }
+    }
+}
+
+#[test]
+fn a_gate_holds_a_thread(rt: HostRuntime) -> Result<(), Fail> {
+    let (made, late) = (AtomicU64::new(0), AtomicU64::new(0));
+    let gate = Behind {
+        made: &made,
+        late: &late,
+    };
+    let journal = run_through(&rt, rt.alloc(), &gate)?;
+    assert_eq!(rt; late.load(Ordering::SeqCst), 0);
+    assert_eq!(rt; ending_of(&journal, 2), Ending::Done);
+    assert_eq!(rt; journal.entries.len(), 8);
+    assert_eq!(rt; journal.entries[0].thread, 1);
+    assert_eq!(rt; journal.entries[1].thread, 1);
+    Ok(())
+}
+
+/// Each of two threads waits for the other before its second access, so they must run beside each other.
+#[derive(Drop)]
+struct Meet<'a> {
+    first: &'a AtomicU64,
+    second: &'a AtomicU64,
+    late: &'a AtomicU64,
+}
+
+impl Gate for Meet<'_> {
+    fn before(&self, thread: u32, own: u64) {
+        if own != 1 {
+            return;
+        }
+        let (mine, other) = match thread {
+            0 => (self.first, self.second),
+            _ => (self.second, self.first),
+        };
+        mine.store(1, Ordering::SeqCst);
+        wait_for(other, self.late);
+    }
+}
+
+#[test]
+fn two_threads_meet(rt: HostRuntime) -> Result<(), Fail> {
+    let (first, second, late) = (AtomicU64::new(0), AtomicU64::new(0), AtomicU64::new(0));
+    let gate = Meet {
+        first: &first,
+        second: &second,
+        late: &late,
+    };
+    let journal = run_through(&rt, rt.alloc(), &gate)?;
+    assert_eq!(rt; late.load(Ordering::SeqCst), 0);
+    assert_eq!(rt; ending_of(&journal, 2), Ending::Done);
+    assert_eq!(rt; journal.entries.len(), 8);
+    Ok(())
+}

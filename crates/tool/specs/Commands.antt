@@ -1,0 +1,30 @@
+-- The table of the commands: what each of them means.
+use Rattle.std.specs.Prelude.{ℕ, List, Option}
+use Rattle.words.specs.declared.command.Command.{Command}
+use Rattle.words.specs.declared.command.Command.TheVariants.{Check, Walk, Replay}
+use Rattle.tool.specs.declared.status.Status.{Status}
+use Rattle.tool.specs.Meaning.{CommandMeaning}
+use Rattle.tool.specs.Check.{check_meaning}
+use Rattle.tool.specs.Walk.{walk_meaning}
+use Rattle.tool.specs.Replay.{replay_meaning}
+
+abbrev pub meaning_of : Command → CommandMeaning
+meaning_of Check = check_meaning
+meaning_of (Walk order draws steps) = walk_meaning order draws steps
+meaning_of Replay = replay_meaning
+
+-- the most bytes that the input of a command may have, where it reads any
+abbrev pub limit_of : Command → Option ℕ
+limit_of command = (meaning_of command).limit
+
+-- what the caller of a command sees to
+abbrev pub HasCondition : Command → Type 0
+HasCondition command = (meaning_of command).condition
+
+-- the output of a command for its whole input, and the status that goes with it
+abbrev pub IsOutputOf : Command → List ℕ → List ℕ → Status → Type 0
+IsOutputOf command = (meaning_of command).output
+
+-- the statuses of a command's work, or want of memory
+abbrev pub IsWorkStatus : Command → Status → Type 0
+IsWorkStatus command = (meaning_of command).works

@@ -1,0 +1,42 @@
+//! What each command reads, and what it makes of it. A command has a module of its own, whose
+//! function `output` makes the whole output from the whole input; its meaning stands in the file of
+//! its name in `specs/`.
+ghost use Rattle.std.specs.Prelude.{◌≡◌, IfOk};
+ghost use Rattle.tool.specs.Commands.{limit_of, HasCondition, IsOutputOf};
+ghost use Rattle.tool.specs.Outputs.{IsWithinLimit};
+
+mod checking;
+mod replaying;
+mod walking;
+
+use crate::answer::Output;
+use std::alloc::Global;
+use values_undef::NoMemory;
+use words::Command;
+
+/// The most bytes that the input of a command may have; nothing where it reads none.
+pub(crate) fn limit(command: &Command) -> Option<u64>
+    ensures { result ≡ limit_of command.now }
+{
+    match command {
+        Command::Check | Command::Walk { .. } => Some(1_048_576),
+        Command::Replay => Some(134_217_728),
+    }
+}
+
+/// The output for an input that was read to its end, or for none where the command reads none.
+pub(crate) fn output_of(alloc: Global, command: &Command, input: &[u8]) -> Result<Output, NoMemory>
+    requires condition { HasCondition command.now }
+    requires within { IsWithinLimit (limit_of command.now) input.now }
+    ensures { IfOk result (λ o. IsOutputOf command.now input.now o.bytes.items o.status) }
+{
+    match command {
+        Command::Check => checking::output(alloc, input),
+        Command::Walk {
+            order,
+            draws,
+            steps,
+        } => walking::output(alloc, order.turns.as_slice(), draws, *steps, input),
+        Command::Replay => replaying::output(alloc, input),
+    }
+}

@@ -1,0 +1,70 @@
+//! `replay`: whether the journal of an input is a run of its program.
+ghost use Rattle.std.specs.Prelude.{◌≡◌, ◌<◌, ◌-◌, ◌^◌, length, IfOk};
+ghost use Rattle.tool.specs.Replay.{IsReplayOutput, IsVerdictOutput, ending_word, why_word};
+
+use crate::answer::{Output, refused, written};
+use crate::memory::Memory;
+use crate::status::Status;
+use replay::{Verdict, Why};
+use replay_text::{TextFault, read_replay};
+use std::alloc::Global;
+use values_undef::{Ending, NoMemory};
+
+fn ending_word(ending: Ending) -> &'static str
+    ensures { result.now ≡ ending_word ending }
+{
+    match ending {
+        Ending::Done => "done",
+        Ending::Failed => "failed",
+        Ending::Spent => "spent",
+    }
+}
+
+fn why_word(why: Why) -> &'static str
+    ensures { result.now ≡ why_word why }
+{
+    match why {
+        Why::Thread => "thread",
+        Why::After => "after",
+        Why::Silent { .. } => "silent",
+        Why::Choice => "choice",
+        Why::Event { .. } => "event",
+    }
+}
+
+/// The output for a verdict on a journal that was given with this ending.
+fn told(alloc: Global, given: Ending, verdict: Verdict) -> Result<Output, NoMemory>
+    ensures { IfOk result (λ o. IsVerdictOutput given verdict o.bytes.items o.status) }
+{
+    match verdict {
+        Verdict::Run { ending } if ending == given => {
+            let text = format!(in alloc; "run {}\n", ending_word(ending))?;
+            written(alloc, text.as_str(), Status::Done)
+        }
+        Verdict::Run { ending } => {
+            let text = format!(in alloc; "no end {}\n", ending_word(ending))?;
+            written(alloc, text.as_str(), Status::No)
+        }
+        Verdict::NotAStep { entry, why } => {
+            let text = format!(in alloc; "no entry {entry} {}\n", why_word(why))?;
+            written(alloc, text.as_str(), Status::No)
+        }
+    }
+}
+
+/// The output of `replay` for this input.
+pub(crate) fn output(alloc: Global, input: &[u8]) -> Result<Output, NoMemory>
+    requires { length input.now < 2 ^ 32 - 1 }
+    ensures { IfOk result (λ o. IsReplayOutput input.now o.bytes.items o.status) }
+{
+    match read_replay(alloc, input) {
+        Ok(read) => {
+            let verdict = replay::replay::<Memory>(alloc, &read.program, &read.journal)?;
+            told(alloc, read.ending, verdict)
+        }
+        Err(TextFault::Refused { rule, line, column }) => {
+            refused(alloc, rule.word(), line, column)
+        }
+        Err(TextFault::NoMemory) => Err(NoMemory),
+    }
+}

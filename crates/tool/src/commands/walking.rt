@@ -1,0 +1,106 @@
+//! `walk`: a run of a program by one thread, which plays all of its threads.
+ghost use Rattle.std.specs.Prelude.{◌≡◌, ◌<◌, ◌≤◌, ◌-◌, ◌^◌, length, IfOk};
+ghost use Rattle.values_undef.specs.Journal.{ending_in};
+ghost use Rattle.il_syntax.specs.WellFormed.{IsWellFormed};
+ghost use Rattle.tool.specs.Walk.{IsWalkOf, IsWalkOutput};
+ghost use Rattle.words.specs.declared.command.Drawing.TheVariants.{Seed, Picks as Picking};
+
+use crate::answer::{Output, text_refused};
+use crate::memory::Memory;
+use crate::status::status_of;
+use chooser::{Draws, Picks};
+use il_parser::parse;
+use il_syntax::Program;
+use journal_text::report;
+use std::alloc::Global;
+use thread_core::laws::well_formed_programs_are_proper;
+use values_undef::{Bytes, NoMemory, Outcome, Turns};
+use walker::laws::{draws_are_drawn, picks_are_picked};
+use words::Drawing;
+
+/// A walk whose choices are drawn from a seed.
+#[tactic(auto, using(crate::proofs::OutputLemmas::are_served))]
+fn drawn(
+    alloc: Global,
+    p: &Program,
+    order: &[u32],
+    seed: u64,
+    steps: u64,
+) -> Result<Outcome, NoMemory>
+    requires well_formed { IsWellFormed p.now }
+    requires some { 1 ≤ steps }
+    requires few { steps ≤ 16384 }
+    ensures walk { IfOk result (λ o. IsWalkOf order.now (Seed seed) steps p.now o.journal) }
+    ensures ending { IfOk result (λ o. o.ending ≡ ending_in o.journal (length p.now.threads)) }
+{
+    well_formed_programs_are_proper();
+    draws_are_drawn();
+    let mut draws = Draws::new(alloc, seed, p.threads.len() as u32)?;
+    walker::walk::<Memory, Draws>(alloc, p, order, &mut draws, steps)
+}
+
+/// A walk whose choices are picked by a list.
+fn picked(
+    alloc: Global,
+    p: &Program,
+    order: &[u32],
+    list: &[u32],
+    steps: u64,
+) -> Result<Outcome, NoMemory>
+    requires well_formed { IsWellFormed p.now }
+    requires some { 1 ≤ steps }
+    requires few { steps ≤ 16384 }
+    ensures walk { IfOk result (λ o. IsWalkOf order.now (Picking list.now) steps p.now o.journal) }
+    ensures ending { IfOk result (λ o. o.ending ≡ ending_in o.journal (length p.now.threads)) }
+{
+    well_formed_programs_are_proper();
+    picks_are_picked();
+    let turns = Vec::from_slice(alloc, list)?;
+    let mut picks = Picks::new(Turns { turns });
+    walker::walk::<Memory, Picks>(alloc, p, order, &mut picks, steps)
+}
+
+/// A walk of a program.
+fn walked(
+    alloc: Global,
+    p: &Program,
+    order: &[u32],
+    draws: &Drawing,
+    steps: u64,
+) -> Result<Outcome, NoMemory>
+    requires well_formed { IsWellFormed p.now }
+    requires some { 1 ≤ steps }
+    requires few { steps ≤ 16384 }
+    ensures walk { IfOk result (λ o. IsWalkOf order.now draws.now steps p.now o.journal) }
+    ensures ending { IfOk result (λ o. o.ending ≡ ending_in o.journal (length p.now.threads)) }
+{
+    match draws {
+        Drawing::Seed { seed } => drawn(alloc, p, order, *seed, steps),
+        Drawing::Picks { list } => picked(alloc, p, order, list.turns.as_slice(), steps),
+    }
+}
+
+/// The output of `walk` for this input.
+pub(crate) fn output(
+    alloc: Global,
+    order: &[u32],
+    draws: &Drawing,
+    steps: u64,
+    input: &[u8],
+) -> Result<Output, NoMemory>
+    requires small { length input.now < 2 ^ 32 - 1 }
+    requires some { 1 ≤ steps }
+    requires few { steps ≤ 16384 }
+    ensures { IfOk result (λ o. IsWalkOutput order.now draws.now steps input.now o.bytes.items o.status) }
+{
+    let p = match parse(alloc, input) {
+        Ok(p) => p,
+        Err(fault) => return text_refused(alloc, input, fault),
+    };
+    let Outcome { journal, ending } = walked(alloc, &p, order, draws, steps)?;
+    let Bytes { bytes } = report(alloc, &p, &journal, &journal, p.threads.len() as u32)?;
+    Ok(Output {
+        bytes,
+        status: status_of(ending),
+    })
+}

@@ -1,0 +1,13 @@
+pub mod HeadLaws
+pub mod BoundLaws
+pub mod WalkLaws
+pub mod MergedLaws
+pub mod VisitLaws
+pub mod BesideLaws
+pub mod PendingLaws
+pub mod NeedLaws
+pub mod FaultLaws
+pub mod Accepting
+pub mod Callers
+pub mod ShapeLaws
+pub mod JudgeLaws

@@ -1,0 +1,12 @@
+il 2
+na data = 0;
+atomic flag = 0;
+fn one() {
+  reg r;
+  store data, 1;
+  fence rel;
+  r = load data;
+  print r;
+  return 0;
+}
+thread one();

@@ -1,0 +1,13 @@
+il 2
+na data = 0;
+atomic flag = 0;
+fn one() {
+  reg r;
+  store data, 1;
+  fence rel;
+  fence acq;
+  r = load data;
+  print r;
+  return 0;
+}
+thread one();

@@ -1,0 +1,12 @@
+il 1
+na data = 0;
+atomic flag = 0;
+fn one() {
+  reg r, s, t;
+  r = load data;
+  s = r;
+  t = r;
+  print t;
+  return s;
+}
+thread one();

@@ -1,0 +1,11 @@
+il 1
+na data = 0;
+atomic flag = 0;
+fn one() {
+  reg r, s;
+  r = load data;
+  s = r;
+  print s;
+  return r;
+}
+thread one();

@@ -1,0 +1,14 @@
+il 1
+na data = 0;
+atomic flag = 0;
+fn one() {
+  reg r;
+  store data, 1;
+  r = load data;
+  print r;
+  store data, 2;
+  r = load data;
+  print r;
+  return 0;
+}
+thread one();

@@ -1,0 +1,13 @@
+# Completion for bash: `source extras/seqopt.bash`.
+_seqopt() {
+  local word=${COMP_WORDS[COMP_CWORD]} options=
+  if ((COMP_CWORD == 1)); then
+    options='check walk replay'
+  elif [[ $word == -* ]]; then
+    case ${COMP_WORDS[1]} in
+      walk) options='--order --picks --seed --steps' ;;
+    esac
+  fi
+  mapfile -t COMPREPLY < <(compgen -W "$options" -- "$word")
+}
+complete -o default -F _seqopt seqopt ./seqopt
