@@ -9,6 +9,7 @@ mod checking;
 mod generating;
 mod optimising;
 mod replaying;
+mod reporting;
 mod validating;
 mod walking;
 
@@ -53,7 +54,7 @@ pub(crate) fn output_of<R: Threads + Sync>(
             order,
             draws,
             steps,
-        } => walking::output(alloc, order.turns.as_slice(), draws, *steps, input),
+        } => walking::output(alloc, rt, order.turns.as_slice(), draws, *steps, input),
         Command::Run { .. } => unreachable!(),
         Command::Replay => replaying::output(alloc, input),
         Command::Gen {
