@@ -2,7 +2,7 @@
 _seqopt() {
   local word=${COMP_WORDS[COMP_CWORD]} options=
   if ((COMP_CWORD == 1)); then
-    options='check walk replay'
+    options='check validate walk replay'
   elif [[ $word == -* ]]; then
     case ${COMP_WORDS[1]} in
       walk) options='--order --picks --seed --steps' ;;

@@ -5,7 +5,8 @@ ghost use Rattle.il_syntax.specs.Statements.{site_count};
 ghost use Rattle.il_syntax.specs.WellFormed.{IsWellFormed};
 ghost use Rattle.il_syntax.specs.declared.program.Function.{Function};
 ghost use Rattle.validator.specs.Faults.{Accepts};
-ghost use Rattle.tool.specs.Validate.{fault_word, IsFirstRefused, IsPairVerdict, IsValidateOutput};
+ghost use Rattle.tool.specs.Validate.{fault_word, refused_function_line, IsFirstRefused, IsPairVerdict, IsValidateOutput};
+ghost use Rattle.tool.specs.declared.status.Status.TheVariants as status;
 
 use crate::answer::{Output, refused, written};
 use crate::status::Status;
@@ -40,7 +41,7 @@ struct RefusedFunction {
 
 /// The same where another function comes before.
 fn one_later(found: RefusedFunction) -> RefusedFunction
-    requires { found.function < 2 ^ 32 }
+    requires { found.function < 2 ^ 63 }
     ensures function { result.function ≡ suc found.function }
     ensures site { result.site ≡ found.site }
     ensures why { result.why ≡ found.why }
@@ -59,7 +60,6 @@ fn first_refused(
 ) -> Result<Option<RefusedFunction>, NoMemory>
     requires small { All (λ (g : Function). site_count g.body.statements ≤ 4096) targets.now }
     requires equal { length targets.now ≡ length sources.now }
-    requires few { length sources.now < 2 ^ 32 }
     ensures { IfOk result (λ found. MatchOption found (AllZip Accepts sources.now targets.now)
         (λ x. (x.function < length sources.now) × IsFirstRefused sources.now targets.now x.function x.site x.why)) }
 {
@@ -82,6 +82,15 @@ fn first_refused(
     }
 }
 
+/// The output for a function that is refused.
+fn function_refused(alloc: Global, found: RefusedFunction) -> Result<Output, NoMemory>
+    ensures { IfOk result (λ o. (o.bytes.items ≡ refused_function_line found.function found.site found.why) × (o.status ≡ status.No)) }
+{
+    let RefusedFunction { function, site, why } = found;
+    let text = format!(in alloc; "refused {function} {site} {}\n", fault_word(why))?;
+    written(alloc, text.as_str(), Status::No)
+}
+
 /// The output for two programs.
 fn judged(alloc: Global, source: &Program, target: &Program) -> Result<Output, NoMemory>
     requires source { IsWellFormed source.now }
@@ -93,11 +102,7 @@ fn judged(alloc: Global, source: &Program, target: &Program) -> Result<Output, N
     }
     match first_refused(alloc, source.functions.as_slice(), target.functions.as_slice())? {
         None => written(alloc, "accepted\n", Status::Done),
-        Some(found) => {
-            let word = fault_word(found.why);
-            let text = format!(in alloc; "refused {} {} {}\n", found.function, found.site, word)?;
-            written(alloc, text.as_str(), Status::No)
-        }
+        Some(found) => function_refused(alloc, found),
     }
 }
 
