@@ -1,8 +1,8 @@
 -- The faults of the code are the refusals of the texts and of the input.
-use Rattle.std.proofs.Common.{◌≡◌, ◌∙◌, ◌+◌, ◌-◌, ◌^◌, ◌<◌, ◌≤◌, sym, subst, ap, refl, length, Ok, Err, Result, codes, ◌++◌, ℕ, arith}
+use Rattle.std.proofs.Common.{◌≡◌, ◌+◌, ◌-◌, ◌^◌, ◌<◌, sym, subst, ap, refl, length, Ok, Err, codes, ◌++◌, arith}
 use Rattle.std.proofs.lemmas.List.{length-append}
 use Rattle.il_syntax.specs.declared.program.Program.{Program}
-use Rattle.il_reader.specs.Refusal.{Refusal, IfRefused}
+use Rattle.il_reader.specs.Refusal.{IfRefused}
 use Rattle.il_reader.specs.declared.fault.ParseFault.{ParseFault}
 use Rattle.il_reader.specs.declared.fault.ParseFault.TheVariants as parse_faults
 use Rattle.il_parser.specs.Text.{SpellsProgram, IsFirstRefusal}
@@ -10,7 +10,7 @@ use Rattle.journal_text.specs.Line.{Text}
 use Rattle.pair_text.specs.declared.fault.PairFault.{PairFault}
 use Rattle.pair_text.specs.declared.input.ProgramPair.{ProgramPair}
 use Rattle.pair_text.specs.Division.{LacksLine, DividesAtLine, at_line, at_end}
-use Rattle.pair_text.specs.Refusals.{target_word, undivided_refusal, pair_refused, moved, before_target, moved_fault, pair_fault}
+use Rattle.pair_text.specs.Refusals.{target_word, undivided_refusal, pair_refused, before_target, moved_fault, pair_fault}
 use Rattle.pair_text.specs.Reading.{of_source, of_target, undivided, of_texts, IsTextsAnswer, IsPairAnswer}
 
 -- two texts

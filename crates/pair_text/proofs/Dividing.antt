@@ -7,7 +7,7 @@ use Rattle.journal_text.specs.Line.{Text}
 use Rattle.journal_text.specs.Reading.{has_no_newline}
 use Rattle.journal_text.specs.Report.{whole_line}
 use Rattle.journal_text.proofs.Callers.{same_line}
-use Rattle.pair_text.specs.Division.{is_line_but, HasLinesBut, LacksLine, DividesAtLine, at_line, at_end}
+use Rattle.pair_text.specs.Division.{is_line_but, HasLinesBut, LacksLine, at_line, at_end}
 use Rattle.pair_text.specs.Laws.{TextsDivideInOneWay, DividedTextsLackNothing}
 use Rattle.pair_text.proofs.Lines.{other_line, other_clean, other_apart}
 

@@ -1,5 +1,5 @@
 -- Two texts, and an input, have an answer.
-use Rattle.std.proofs.Common.{◌≡◌, ◌⊎◌, inl, inr, refl}
+use Rattle.std.proofs.Common.{◌⊎◌, inl, inr, refl}
 use Rattle.il_syntax.specs.declared.program.Program.{Program}
 use Rattle.il_reader.specs.Refusal.{Refusal}
 use Rattle.il_parser.specs.Text.{SpellsProgram, IsFirstRefusal}

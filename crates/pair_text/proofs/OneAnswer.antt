@@ -5,7 +5,6 @@ use Rattle.il_syntax.specs.declared.program.Program.{Program}
 use Rattle.il_reader.specs.Refusal.{Refusal, IfRefused}
 use Rattle.il_reader.specs.declared.fault.ParseFault.{ParseFault}
 use Rattle.il_reader.specs.declared.fault.ParseFault.TheVariants as parse_faults
-use Rattle.il_parser.specs.Text.{SpellsProgram, IsFirstRefusal}
 use Rattle.il_parser.proofs.Callers.{one_program, spelled_unrefused, one_first}
 use Rattle.journal_text.specs.Line.{Text}
 use Rattle.pair_text.specs.declared.fault.PairFault.{PairFault}

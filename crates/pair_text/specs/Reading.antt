@@ -1,5 +1,5 @@
 -- What an input must be to be read as a pair of programs, and what the first refusal of another is.
-use Rattle.std.specs.Prelude.{◌≡◌, ℕ, List, Result, Ok, Err}
+use Rattle.std.specs.Prelude.{◌≡◌, Result, Ok, Err}
 use Rattle.il_syntax.specs.declared.program.Program.{Program}
 use Rattle.il_reader.specs.Refusal.{Refusal}
 use Rattle.il_reader.specs.declared.fault.ParseFault.{ParseFault}

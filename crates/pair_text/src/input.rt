@@ -44,11 +44,7 @@ fn target_fault(source: &[u8], fault: ParseFault) -> ParseFault
 }
 
 /// The programs of the two texts.
-fn texts(
-    alloc: Global,
-    source_text: &[u8],
-    target_text: &[u8],
-) -> Result<ProgramPair, ParseFault>
+fn texts(alloc: Global, source_text: &[u8], target_text: &[u8]) -> Result<ProgramPair, ParseFault>
     requires { length source_text.now + length target_text.now < 2 ^ 32 - 3 }
     ensures answer { IsTextsAnswer source_text.now target_text.now result }
     ensures source { IfOk result (λ x. IsWellFormed x.source) }

@@ -1,5 +1,5 @@
 //! `validate`: whether the functions of one program may stand for those of another.
-ghost use Rattle.std.specs.Prelude.{◌≡◌, ◌≤◌, ◌<◌, ◌-◌, ◌^◌, length, IfOk, MatchOption, All};
+ghost use Rattle.std.specs.Prelude.{◌≡◌, ◌≤◌, ◌<◌, ◌-◌, ◌^◌, suc, length, IfOk, MatchOption, All};
 ghost use Rattle.std.specs.List.{AllZip};
 ghost use Rattle.il_syntax.specs.Statements.{site_count};
 ghost use Rattle.il_syntax.specs.WellFormed.{IsWellFormed};
