@@ -92,8 +92,8 @@ one_form f g None a b = a ∙ sym b
 one_form f g (Some text) a b = form_of_word f g (sym a ∙ b)
 
 plain_form_word : (f : Form) → IsPlain (form_word f)
-plain_form_word Text = (refl, refl)
-plain_form_word Summary = (refl, refl)
+plain_form_word Text = refl
+plain_form_word Summary = refl
 
 plain_form : (f : Form) (value : Option WordText) (text : WordText) → IsFormOf value f → value ≡ Some text → IsPlain text
 plain_form f None text a e = absurd cc

@@ -20,7 +20,7 @@ use words::Drawing;
 
 /// A walk whose choices are drawn from a seed.
 #[tactic(auto, using(crate::proofs::OutputLemmas::are_served))]
-fn drawn(
+pub(crate) fn drawn(
     alloc: Global,
     p: &Program,
     order: &[u32],
