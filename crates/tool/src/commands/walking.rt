@@ -1,4 +1,4 @@
-//! `walk`: a run of a program by one thread, which plays all of its threads.
+//! `walk`: a run of the optimised program by one thread, which plays all of its threads.
 ghost use Rattle.std.specs.Prelude.{◌≡◌, ◌<◌, ◌≤◌, ◌-◌, ◌^◌, length, IfOk};
 ghost use Rattle.values_undef.specs.Journal.{ending_in};
 ghost use Rattle.il_syntax.specs.WellFormed.{IsWellFormed};
@@ -9,10 +9,14 @@ use crate::answer::{Output, text_refused};
 use crate::memory::Memory;
 use crate::status::status_of;
 use chooser::{Draws, Picks};
+use flow_summary::Summed;
 use il_parser::parse;
 use il_syntax::Program;
 use journal_text::report;
+use parallel_driver::optimise;
+use simulation::lift_chain;
 use std::alloc::Global;
+use std::thread::Threads;
 use thread_core::laws::well_formed_programs_are_proper;
 use values_undef::{Bytes, NoMemory, Outcome, Turns};
 use walker::laws::{draws_are_drawn, picks_are_picked};
@@ -80,8 +84,10 @@ fn walked(
     }
 }
 
-/// The output of `walk` for this input.
+/// The output of `walk` for this input: the program is optimised, the last program of the chain is walked, and the
+/// journal is lifted to the program that was given.
 pub(crate) fn output(
+    rt: &(impl Threads + Sync),
     alloc: Global,
     order: &[u32],
     draws: &Drawing,
@@ -97,8 +103,16 @@ pub(crate) fn output(
         Ok(p) => p,
         Err(fault) => return text_refused(alloc, input, fault),
     };
-    let Outcome { journal, ending } = walked(alloc, &p, order, draws, steps)?;
-    let Bytes { bytes } = report(alloc, &p, &journal, &journal, p.threads.len() as u32)?;
+    let chain = optimise(rt, alloc, &Summed, &p)?;
+    let Outcome { journal, ending } = walked(alloc, &chain.undead, order, draws, steps)?;
+    let source = lift_chain::<Memory>(alloc, &chain, &journal)?;
+    let Bytes { bytes } = report(
+        alloc,
+        &chain.undead,
+        &journal,
+        &source,
+        p.threads.len() as u32,
+    )?;
     Ok(Output {
         bytes,
         status: status_of(ending),
