@@ -1,10 +1,9 @@
 -- A chain can be lifted along, and what is lifted is a run of the program that was given.
-use Rattle.std.proofs.Common.{◌≡◌, ◌⊎◌, ℕ, ◌+◌, ◌<◌, ◌≤◌, ◌^◌, ◌==◌, if◌then◌else◌, Bool, true, false, List, [], ◌∷◌, length, map, inl, inr, refl, ap, subst, ◌∙◌, arith}
+use Rattle.std.proofs.Common.{◌≡◌, ◌⊎◌, ℕ, ◌+◌, ◌<◌, ◌≤◌, ◌^◌, ◌==◌, if◌then◌else◌, Bool, true, false, List, [], ◌∷◌, length, map, Result, Ok, Err, IfOk, inl, inr, refl, ap, subst, ◌∙◌, arith}
 use Rattle.std.proofs.lemmas.Bool.{eqb-true, cases_lt}
 use Rattle.std.specs.List.{AllZip, AllByRecursion}
 use Rattle.values_undef.specs.Journal.{used_steps, entry_steps, ending_in}
 use Rattle.values_undef.specs.declared.journal.Entry.{Entry}
-use Rattle.values_undef.specs.declared.journal.Ending.{Ending}
 use Rattle.il_syntax.specs.declared.program.Function.{Function}
 use Rattle.il_syntax.specs.declared.program.Program.{Program}
 use Rattle.il_syntax.specs.declared.program.Start.{Start}
@@ -24,7 +23,9 @@ use Rattle.simulation.specs.Conditions.{IsAcceptedTarget, IsLifted}
 use Rattle.simulation.specs.Chain.{AreAcceptedTargets}
 use Rattle.tool.specs.declared.status.Status.{Status}
 use Rattle.tool.specs.Statuses.{status_of}
-use Rattle.tool.specs.Headline.{IsOptimisedRun, IsReport}
+use Rattle.tool.specs.declared.answer.Output.{Output}
+use Rattle.tool.specs.Headline.{IsReport}
+use Rattle.tool.specs.Reported.{IsReported}
 
 -- ---- the five programs
 
@@ -77,18 +78,30 @@ are_few p entries steps less run complete i = go (cases_lt i (length p.threads))
 lifted_to_given : (p : Program) (c : ProgramChain) (journal source : List Entry) → IsOptAll p c → IsLifted c.source c.undead journal source → IsLifted p c.undead journal source
 lifted_to_given p c journal source o l = subst (λ (q : Program). IsLifted q c.undead journal source) (first_is_given p c o) l
 
-pub is_report : (IsOwn : Program → List Entry → Type 0) (bytes out : List ℕ) (result : Status) (e : Ending) (p : Program) (c : ProgramChain) (journal source : List Entry)
-    → SpellsProgram bytes p → IsOptAll p c → IsJournalRun c.undead journal → IsOwn c.undead journal → IsLifted c.source c.undead journal source
-    → e ≡ ending_in journal (length c.undead.threads) → out ≡ report_text c.undead journal source (length p.threads) → result ≡ status_of e
+-- what was reported of a run of the last program of a chain is the report of it
+pub is_report : (IsOwn : Program → List Entry → Type 0) (bytes out : List ℕ) (result : Status) (p : Program) (c : ProgramChain) (journal : List Entry)
+    → SpellsProgram bytes p → IsOptAll p c → IsJournalRun c.undead journal → IsOwn c.undead journal → IsReported c journal out result
     → IsReport IsOwn bytes out result
-is_report IsOwn bytes out result e p c journal source spelled o run own lifted ends written is = record {
+is_report IsOwn bytes out result p c journal spelled o run own reported = record {
   program = p;
   chain = c;
   journal = journal;
-  source = source;
+  source = reported.source;
   spelled = spelled;
-  headline = record { optimised = o; run = run; lifted = lifted_to_given p c journal source o lifted };
+  headline = record { optimised = o; run = run; lifted = lifted_to_given p c journal reported.source o reported.lifted };
   own = own;
-  written = written;
-  status = is ∙ ap status_of (ends ∙ ap (λ (threads : List Start). ending_in journal (length threads)) (same_threads p c o));
+  written = reported.written ∙ ap (λ (threads : List Start). report_text c.undead journal reported.source (length threads)) (same_threads p c o);
+  status = reported.status ∙ ap (λ (threads : List Start). status_of (ending_in journal (length threads))) (same_threads p c o);
 }
+
+-- of whatever was answered
+pub reports : {E : Type 0} (IsOwn : Program → List Entry → Type 0) (bytes : List ℕ) (p : Program) (c : ProgramChain) (journal : List Entry) (r : Result Output E)
+    → SpellsProgram bytes p → IsOptAll p c → IsJournalRun c.undead journal → IsOwn c.undead journal → IfOk r (λ o. IsReported c journal o.bytes.items o.status)
+    → IfOk r (λ o. IsReport IsOwn bytes o.bytes.items o.status)
+reports IsOwn bytes p c journal (Ok o) spelled all run own reported = is_report IsOwn bytes o.bytes.items o.status p c journal spelled all run own reported
+reports IsOwn bytes p c journal (Err e) spelled all run own reported = tt
+
+-- and so an output of a command that reports such runs
+pub report_or_refusal : {E : Type 0} (Reports Refuses : List ℕ → Status → Type 0) (r : Result Output E) → IfOk r (λ o. Reports o.bytes.items o.status) → IfOk r (λ o. Reports o.bytes.items o.status ⊎ Refuses o.bytes.items o.status)
+report_or_refusal Reports Refuses (Ok o) h = inl h
+report_or_refusal Reports Refuses (Err e) h = tt

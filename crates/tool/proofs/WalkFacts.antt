@@ -14,15 +14,15 @@ use Rattle.tool.specs.Walk.{IsWalkOutput, walk_meaning}
 use Rattle.tool.specs.Outputs.{IsRefusalStatus}
 use Rattle.tool.proofs.CommandFacts.{IsOutputStatus, CommandFacts}
 
-of_ending : (e : Ending) → IsOutputStatus (status_of e)
+pub of_ending : (e : Ending) → IsOutputStatus (status_of e)
 of_ending ending.Done = tt
 of_ending ending.Failed = tt
 of_ending ending.Spent = tt
 
-abbrev IsWalkStatus : Status → Type 0
+abbrev pub IsWalkStatus : Status → Type 0
 IsWalkStatus s = (s ≡ status.Done) ⊎ ((s ≡ status.Failed) ⊎ ((s ≡ status.Spent) ⊎ (s ≡ status.NoMemory)))
 
-by_ending : (e : Ending) (s : Status) → s ≡ status_of e → IsWalkStatus s
+pub by_ending : (e : Ending) (s : Status) → s ≡ status_of e → IsWalkStatus s
 by_ending ending.Done s is = inl is
 by_ending ending.Failed s is = inr (inl is)
 by_ending ending.Spent s is = inr (inr (inl is))

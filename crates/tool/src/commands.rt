@@ -58,7 +58,7 @@ pub(crate) fn output_of<R: Threads + Sync>(
             order,
             draws,
             steps,
-        } => walking::output(rt, alloc, order.turns.as_slice(), draws, *steps, input),
+        } => walking::output(alloc, rt, order.turns.as_slice(), draws, *steps, input),
         Command::Run { .. } => unreachable!(),
         Command::Replay => replaying::output(alloc, input),
         Command::Gen {

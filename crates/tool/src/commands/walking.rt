@@ -6,19 +6,17 @@ ghost use Rattle.tool.specs.Walk.{IsWalkOf, IsWalkOutput};
 ghost use Rattle.words.specs.declared.command.Drawing.TheVariants.{Seed, Picks as Picking};
 
 use crate::answer::{Output, text_refused};
+use crate::commands::reporting::reported;
 use crate::memory::Memory;
-use crate::status::status_of;
 use chooser::{Draws, Picks};
 use flow_summary::Summed;
 use il_parser::parse;
 use il_syntax::Program;
-use journal_text::report;
 use parallel_driver::optimise;
-use simulation::lift_chain;
 use std::alloc::Global;
 use std::thread::Threads;
 use thread_core::laws::well_formed_programs_are_proper;
-use values_undef::{Bytes, NoMemory, Outcome, Turns};
+use values_undef::{NoMemory, Outcome, Turns};
 use walker::laws::{draws_are_drawn, picks_are_picked};
 use words::Drawing;
 
@@ -84,11 +82,10 @@ fn walked(
     }
 }
 
-/// The output of `walk` for this input: the program is optimised, the last program of the chain is walked, and the
-/// journal is lifted to the program that was given.
-pub(crate) fn output(
-    rt: &(impl Threads + Sync),
+/// The output of `walk` for this input: the last program of the chain is walked, and its journal is lifted.
+pub(crate) fn output<R: Threads + Sync>(
     alloc: Global,
+    rt: &R,
     order: &[u32],
     draws: &Drawing,
     steps: u64,
@@ -104,17 +101,6 @@ pub(crate) fn output(
         Err(fault) => return text_refused(alloc, input, fault),
     };
     let chain = optimise(rt, alloc, &Summed, &p)?;
-    let Outcome { journal, ending } = walked(alloc, &chain.undead, order, draws, steps)?;
-    let source = lift_chain::<Memory>(alloc, &chain, &journal)?;
-    let Bytes { bytes } = report(
-        alloc,
-        &chain.undead,
-        &journal,
-        &source,
-        p.threads.len() as u32,
-    )?;
-    Ok(Output {
-        bytes,
-        status: status_of(ending),
-    })
+    let walk = walked(alloc, &chain.undead, order, draws, steps)?;
+    reported(alloc, &chain, &walk.journal)
 }
