@@ -2,10 +2,11 @@
 _seqopt() {
   local word=${COMP_WORDS[COMP_CWORD]} options=
   if ((COMP_CWORD == 1)); then
-    options='check walk replay'
+    options='check walk run replay'
   elif [[ $word == -* ]]; then
     case ${COMP_WORDS[1]} in
       walk) options='--order --picks --seed --steps' ;;
+      run) options='--seed --steps' ;;
     esac
   fi
   mapfile -t COMPREPLY < <(compgen -W "$options" -- "$word")
