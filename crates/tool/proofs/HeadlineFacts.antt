@@ -1,5 +1,5 @@
 -- A chain can be lifted along, and what is lifted is a run of the program that was given.
-use Rattle.std.proofs.Common.{◌≡◌, ◌⊎◌, ℕ, ◌+◌, ◌<◌, ◌≤◌, ◌^◌, ◌==◌, if◌then◌else◌, Bool, true, false, List, [], ◌∷◌, length, map, Result, Ok, Err, IfOk, inl, inr, refl, ap, subst, ◌∙◌, arith}
+use Rattle.std.proofs.Common.{◌≡◌, ◌⊎◌, ℕ, ◌+◌, ◌<◌, ◌≤◌, ◌^◌, ◌==◌, if◌then◌else◌, Bool, true, false, List, [], ◌∷◌, length, map, inl, inr, refl, ap, subst, ◌∙◌, arith}
 use Rattle.std.proofs.lemmas.Bool.{eqb-true, cases_lt}
 use Rattle.std.specs.List.{AllZip, AllByRecursion}
 use Rattle.values_undef.specs.Journal.{used_steps, entry_steps, ending_in}
@@ -23,7 +23,6 @@ use Rattle.simulation.specs.Conditions.{IsAcceptedTarget, IsLifted}
 use Rattle.simulation.specs.Chain.{AreAcceptedTargets}
 use Rattle.tool.specs.declared.status.Status.{Status}
 use Rattle.tool.specs.Statuses.{status_of}
-use Rattle.tool.specs.declared.answer.Output.{Output}
 use Rattle.tool.specs.Headline.{IsReport}
 use Rattle.tool.specs.Reported.{IsReported}
 
@@ -93,15 +92,3 @@ is_report IsOwn bytes out result p c journal spelled o run own reported = record
   written = reported.written ∙ ap (λ (threads : List Start). report_text c.undead journal reported.source (length threads)) (same_threads p c o);
   status = reported.status ∙ ap (λ (threads : List Start). status_of (ending_in journal (length threads))) (same_threads p c o);
 }
-
--- of whatever was answered
-pub reports : {E : Type 0} (IsOwn : Program → List Entry → Type 0) (bytes : List ℕ) (p : Program) (c : ProgramChain) (journal : List Entry) (r : Result Output E)
-    → SpellsProgram bytes p → IsOptAll p c → IsJournalRun c.undead journal → IsOwn c.undead journal → IfOk r (λ o. IsReported c journal o.bytes.items o.status)
-    → IfOk r (λ o. IsReport IsOwn bytes o.bytes.items o.status)
-reports IsOwn bytes p c journal (Ok o) spelled all run own reported = is_report IsOwn bytes o.bytes.items o.status p c journal spelled all run own reported
-reports IsOwn bytes p c journal (Err e) spelled all run own reported = tt
-
--- and so an output of a command that reports such runs
-pub report_or_refusal : {E : Type 0} (Reports Refuses : List ℕ → Status → Type 0) (r : Result Output E) → IfOk r (λ o. Reports o.bytes.items o.status) → IfOk r (λ o. Reports o.bytes.items o.status ⊎ Refuses o.bytes.items o.status)
-report_or_refusal Reports Refuses (Ok o) h = inl h
-report_or_refusal Reports Refuses (Err e) h = tt

@@ -9,8 +9,12 @@ use Rattle.std.proofs.lemmas.Fmt.{decimal_injective}
 use Rattle.std.proofs.lemmas.Slice.Eq.{bytes_eq-Decides}
 use Rattle.clap.specs.Walk.{Row}
 use Rattle.clap.specs.Matches.{subcommand_name_of}
-use Rattle.clap.specs.Simple.{built, is_simple, subcommand_of, subcommand_rows, subcommand_rows_of}
+use Rattle.clap.specs.Simple.{App, HasMatchesOf, built, is_simple, subcommand_of, subcommand_rows, subcommand_rows_of}
 use Rattle.clap.specs.Faults.{fault_of, is_simple_and_free}
+use Rattle.clap.specs.Kinds.{HasKind}
+use Rattle.clap.specs.Words.{kind_of}
+use Rattle.clap.specs.declared.error.Error.{Error}
+use Rattle.clap.specs.declared.error.kind.ErrorKind.TheVariants as kind
 use Rattle.clap.specs.declared.parser.matches.ArgMatches.{ArgMatches}
 use Rattle.clap.specs.declared.parser.matches.ArgMatches.TheViews.{out-ArgMatches, out-SubCommand}
 use Rattle.words.specs.Commands.{commands}
@@ -55,6 +59,27 @@ dashes_none (w ∷ ws) h = go (bytes_eq w (codes "--")) refl (dashes_none ws)
 none_dashes : (words : List WordText) → NoDashes words → list_any (λ w. bytes_eq w (codes "--")) words ≡ false
 none_dashes [] h = refl
 none_dashes (w ∷ ws) h = rw h.0 (none_dashes ws h.1)
+
+-- what clap has read, or why it has refused
+pub clap_reads : (a : App) (words : List WordText) (m : ArgMatches) → a ≡ clap_program commands → (is_simple_and_free a ≡ true → fault_of a words ≡ []) → HasMatchesOf a words m
+    → (fault_of (clap_program commands) words ≡ []) × (subcommand_rows_of m ≡ subcommand_of (clap_program commands) words)
+clap_reads a words m same kinds has = (
+  subst (λ (b : App). is_simple_and_free b ≡ true → fault_of b words ≡ []) same kinds program_simple,
+  (subst (λ (b : App). HasMatchesOf b words m) same has program_is_simple).1,
+)
+
+no_kind : (e : Error) → (kind_of e ≡ kind.OutOfMemory → ⊥) → HasKind [] e → ⊥
+no_kind e other (inl memory) = other memory
+no_kind e other (inr among) = among
+
+pub clap_refuses : (a : App) (words : List WordText) (e : Error) → a ≡ clap_program commands → (is_simple_and_free a ≡ true → HasKind (fault_of a words) e)
+    → (kind_of e ≡ kind.OutOfMemory → ⊥) → fault_of (clap_program commands) words ≡ [] → ⊥
+clap_refuses a words e same kinds other none =
+    no_kind e other (subst (λ ks. HasKind ks e) none (subst (λ (b : App). is_simple_and_free b ≡ true → HasKind (fault_of b words) e) same kinds program_simple))
+
+-- no subcommand was read
+pub no_rows : (m : ArgMatches) (p : WordText × List Row) → None ≡ option_map (λ q. q.1) (subcommand_rows_of m) → subcommand_rows_of m ≡ Some p → ⊥
+no_rows m p none some = let bad : ◌≡◌ {A = Option (List Row)} None (Some p.1) = none ∙ ap (option_map (λ q. q.1)) some in absurd cc
 
 -- ---- values
 

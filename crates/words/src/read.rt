@@ -62,9 +62,10 @@ fn number_or(
     high: u64,
     default: u64,
 ) -> Result<u64, WordsFault>
-    ensures { (os : List Setting) → rows_of (found_of settings.now) ≡ map row_of os
+    ensures value { (os : List Setting) → rows_of (found_of settings.now) ≡ map row_of os
         → MatchResult result (GivesNumber low high default (value_of name.now os))
         (λ e. (e ≡ WordsFault.Refused) × ((n : ℕ) → GivesNumber low high default (value_of name.now os) n → ⊥)) }
+    ensures bound { default ≤ high → IfOk result (λ n. n ≤ high) }
 {
     match settings.get_str(name) {
         None => Ok(default),
