@@ -1,0 +1,5 @@
+use Rattle.tool.proofs.JudgedReports.{walk_sources_are_judged}
+use Rattle.tool.proofs.laws.source_journals_are_judged_runs.Goals as goal
+
+pub returns : goal.returns
+returns c = walk_sources_are_judged
