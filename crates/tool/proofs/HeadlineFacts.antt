@@ -62,7 +62,7 @@ unused n (e ∷ es) i out all = of_entry (e.thread == i) refl (unused n es i out
   where
     of_entry : (own : Bool) → (e.thread == i) ≡ own → used_steps es i ≡ 0 → (if own then entry_steps e else 0) + used_steps es i ≡ 0
     of_entry true is rest = absurd (omega (arith, eqb-true e.thread i is, all.0, out))
-    of_entry false is rest = rest
+    of_entry false is rest = omega (arith, rest)
 
 pub are_few : (p : Program) (entries : List Entry) (steps : ℕ) → steps ≤ 16384 → IsJournalRun p entries → IsComplete p entries steps → AreFew entries
 are_few p entries steps less run complete i = go (cases_lt i (length p.threads))
