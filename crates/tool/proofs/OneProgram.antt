@@ -17,7 +17,7 @@ use Rattle.words.specs.declared.command.Form.TheVariants.{Text, Summary}
 use Rattle.tool.specs.declared.status.Status.{Status}
 use Rattle.tool.specs.Refusals.{refusal_line}
 use Rattle.tool.specs.Opt.{IsOptimisedText, IsOptOutput}
-use Rattle.tool.specs.Gen.{IsChainSummary, IsSummary, IsForm, IsGenOutput, summary_text}
+use Rattle.tool.specs.Gen.{IsChainSummary, IsSummary, IsForm, IsGenOutput, summary_lines}
 use Rattle.tool.specs.Laws.{OptsHaveOneOutput, GensHaveOneOutput}
 use Rattle.tool.proofs.DrawnWalks.{walked_once}
 
@@ -38,7 +38,7 @@ opts_have_one_output bytes one other s t (inr x) (inr y) =
 told_once : (number : ℕ) (c : ProgramChain) (one other : List ℕ) → IsChainSummary number c one → IsChainSummary number c other → one ≡ other
 told_once number c one other x y =
     let journals = walked_once _ number 1000 c.undead x.journal y.journal x.walk y.walk in
-    x.written ∙ ap (λ (js : List Entry). summary_text (counts_of c) (length js) (ending_in js (length c.undead.threads))) journals ∙ sym y.written
+    x.written ∙ ap (λ (js : List Entry). summary_lines (counts_of c) (length js) (ending_in js (length c.undead.threads))) journals ∙ sym y.written
 
 summary_once : (number : ℕ) (p : Program) (one other : List ℕ) → IsSummary number p one → IsSummary number p other → one ≡ other
 summary_once number p one other x y =

@@ -20,24 +20,31 @@ use Rattle.tool.specs.Meaning.{CommandMeaning}
 use Rattle.tool.specs.Replay.{ending_word}
 use Rattle.tool.specs.Walk.{IsWalkOf}
 
--- the seven lines: what the passes did, and how many entries a run has and how it ends
-abbrev pub summary_text : Counts → ℕ → Ending → List ℕ
-summary_text counts entries ending =
-    codes "functions " ++ (decimal counts.functions
-    ++ (codes "\nstatements " ++ (decimal counts.statements
-    ++ (codes "\nforwarded " ++ (decimal counts.forwarded
-    ++ (codes "\nintroduced " ++ (decimal counts.introduced
-    ++ (codes "\nremoved " ++ (decimal counts.removed
-    ++ (codes "\nentries " ++ (decimal entries
-    ++ (codes "\nend " ++ (ending_word ending
-    ++ codes "\n")))))))))))))
+-- The summary, in seven lines.
+
+-- a word and a number
+abbrev pub number_line : List ℕ → ℕ → List ℕ
+number_line word n = word ++ (codes " " ++ (decimal n ++ codes "\n"))
+
+-- what the passes did
+abbrev pub counts_lines : Counts → List ℕ
+counts_lines counts =
+    number_line (codes "functions") counts.functions
+    ++ (number_line (codes "statements") counts.statements
+    ++ (number_line (codes "forwarded") counts.forwarded
+    ++ (number_line (codes "introduced") counts.introduced
+    ++ number_line (codes "removed") counts.removed)))
+
+-- and how many entries a run has, and how it ends
+abbrev pub summary_lines : Counts → ℕ → Ending → List ℕ
+summary_lines counts entries ending = counts_lines counts ++ (number_line (codes "entries") entries ++ (codes "end " ++ (ending_word ending ++ codes "\n")))
 
 -- The lines tell of these five programs, and of a walk of the last of them: its threads take turns from the first one
 -- on, its choices are drawn from the number, and each thread makes 1000 steps at most.
 pub record IsChainSummary (number : ℕ) (chain : ProgramChain) (out : List ℕ) : Type 0 where
   pub journal : List Entry
   pub walk : IsWalkOf [] (Seed number) 1000 chain.undead journal
-  pub written : out ≡ summary_text (counts_of chain) (length journal) (ending_in journal (length chain.undead.threads))
+  pub written : out ≡ summary_lines (counts_of chain) (length journal) (ending_in journal (length chain.undead.threads))
 
 -- The lines tell of the five programs that the passes make of this one.
 pub record IsSummary (number : ℕ) (program : Program) (out : List ℕ) : Type 0 where

@@ -1,9 +1,9 @@
 //! `gen`: a program that is made from a number, or what the passes did to it and how a run of it ends.
-ghost use Rattle.std.specs.Prelude.{◌≡◌, ◌≤◌, IfOk};
+ghost use Rattle.std.specs.Prelude.{◌≡◌, ◌≤◌, ◌++◌, IfOk, OnOk};
 ghost use Rattle.il_syntax.specs.WellFormed.{IsWellFormed};
 ghost use Rattle.il_syntax.specs.Text.{program_text};
 ghost use Rattle.pass_chain.specs.Laws.{AreWellFormed};
-ghost use Rattle.tool.specs.Gen.{IsChainSummary, IsGenOutput, IsSummary, summary_text};
+ghost use Rattle.tool.specs.Gen.{IsChainSummary, IsGenOutput, IsSummary, counts_lines, number_line, summary_lines};
 
 use crate::answer::Output;
 use crate::commands::replaying::ending_word;
@@ -13,6 +13,7 @@ use flow_summary::Summed;
 use gen_program::generate;
 use il_printer::print;
 use il_syntax::Program;
+use itoa::Buffer;
 use parallel_driver::optimise;
 use pass_chain::{Counts, ProgramChain, count};
 use std::alloc::Global;
@@ -30,25 +31,46 @@ fn text(alloc: Global, p: &Program) -> Result<Vec<u8>, NoMemory>
     Ok(print(alloc, p)?.bytes)
 }
 
-/// The seven lines.
+/// Puts a line of a word and a number to the end.
+fn push_line(bytes: &mut Vec<u8>, word: &str, n: u64) -> Result<(), NoMemory>
+    ensures { OnOk result (bytes.new.items ≡ bytes.old.items ++ number_line word.now n) }
+{
+    let mut buffer = Buffer::new();
+    bytes.extend_from_slice(word.as_bytes())?;
+    bytes.push(b' ')?;
+    bytes.extend_from_slice(buffer.format(n).as_bytes())?;
+    bytes.push(b'\n')?;
+    Ok(())
+}
+
+/// Puts the lines of what the passes did to the end.
+fn push_counts(bytes: &mut Vec<u8>, counts: Counts) -> Result<(), NoMemory>
+    ensures { OnOk result (bytes.new.items ≡ bytes.old.items ++ counts_lines counts) }
+{
+    push_line(bytes, "functions", counts.functions)?;
+    push_line(bytes, "statements", counts.statements)?;
+    push_line(bytes, "forwarded", counts.forwarded)?;
+    push_line(bytes, "introduced", counts.introduced)?;
+    push_line(bytes, "removed", counts.removed)?;
+    Ok(())
+}
+
+/// The seven lines of a summary.
 fn lines(
     alloc: Global,
     counts: Counts,
     entries: u64,
     ending: Ending,
 ) -> Result<Vec<u8>, NoMemory>
-    ensures { IfOk result (λ bytes. bytes.items ≡ summary_text counts entries ending) }
+    ensures { IfOk result (λ bytes. bytes.items ≡ summary_lines counts entries ending) }
 {
-    let Counts {
-        functions,
-        statements,
-        forwarded,
-        introduced,
-        removed,
-    } = counts;
-    let end = ending_word(ending);
-    let text = format!(in alloc; "functions {functions}\nstatements {statements}\nforwarded {forwarded}\nintroduced {introduced}\nremoved {removed}\nentries {entries}\nend {end}\n")?;
-    Ok(text.into_bytes())
+    let mut bytes = Vec::new(alloc);
+    push_counts(&mut bytes, counts)?;
+    push_line(&mut bytes, "entries", entries)?;
+    bytes.extend_from_slice(b"end ")?;
+    bytes.extend_from_slice(ending_word(ending).as_bytes())?;
+    bytes.push(b'\n')?;
+    Ok(bytes)
 }
 
 /// The summary of a program that the passes have optimised: its last program is walked.
