@@ -18,7 +18,7 @@ SameOutput one other s t = (one ≡ other) × (s ≡ t)
 
 -- a fault by its number
 
-fault_of : ℕ → Fault
+abbrev fault_of : ℕ → Fault
 fault_of zero = V7
 fault_of (suc zero) = V1
 fault_of (suc (suc zero)) = V2
