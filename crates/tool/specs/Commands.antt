@@ -30,14 +30,14 @@ abbrev pub HasCondition : Command → Type 0
 HasCondition command = (meaning_of command).condition
 
 -- the commands that wait for nothing: all but `run`
-abbrev pub IsQuiet : Command → Type 0
-IsQuiet Check = Unit {0}
-IsQuiet Opt = Unit {0}
-IsQuiet Validate = Unit {0}
-IsQuiet (Walk order draws steps) = Unit {0}
-IsQuiet (Run seed steps) = ⊥
-IsQuiet Replay = Unit {0}
-IsQuiet (Gen number functions form) = Unit {0}
+abbrev pub WaitsForNothing : Command → Type 0
+WaitsForNothing Check = Unit {0}
+WaitsForNothing Opt = Unit {0}
+WaitsForNothing Validate = Unit {0}
+WaitsForNothing (Walk order draws steps) = Unit {0}
+WaitsForNothing (Run seed steps) = ⊥
+WaitsForNothing Replay = Unit {0}
+WaitsForNothing (Gen number functions form) = Unit {0}
 
 -- the output of a command for its whole input, and the status that goes with it
 abbrev pub IsOutputOf : Command → List ℕ → List ℕ → Status → Type 0

@@ -56,7 +56,12 @@ fn push_counts(bytes: &mut Vec<u8>, counts: Counts) -> Result<(), NoMemory>
 }
 
 /// The seven lines of a summary.
-fn lines(alloc: Global, counts: Counts, entries: u64, ending: Ending) -> Result<Vec<u8>, NoMemory>
+fn lines(
+    alloc: Global,
+    counts: Counts,
+    entries: u64,
+    ending: Ending,
+) -> Result<Vec<u8>, NoMemory>
     ensures { IfOk result (λ bytes. bytes.items ≡ summary_lines counts entries ending) }
 {
     let mut bytes = Vec::new(alloc);
@@ -69,7 +74,11 @@ fn lines(alloc: Global, counts: Counts, entries: u64, ending: Ending) -> Result<
 }
 
 /// The summary of a program that the passes have optimised: its last program is walked.
-fn chain_summary(alloc: Global, number: u64, chain: &ProgramChain) -> Result<Vec<u8>, NoMemory>
+fn chain_summary(
+    alloc: Global,
+    number: u64,
+    chain: &ProgramChain,
+) -> Result<Vec<u8>, NoMemory>
     requires { AreWellFormed chain.now }
     ensures { IfOk result (λ bytes. IsChainSummary number chain.now bytes.items) }
 {
