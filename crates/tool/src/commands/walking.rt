@@ -83,7 +83,7 @@ fn walked(
 }
 
 /// The output of `walk` for this input: the last program of the chain is walked, and its journal is lifted.
-#[tactic(auto, using(crate::proofs::HeadlineFacts::are_accepted, crate::proofs::HeadlineFacts::are_few, crate::proofs::WalkFacts::walk_reported))]
+#[tactic(auto, using(crate::proofs::HeadlineFacts::are_accepted))]
 pub(crate) fn output<R: Threads + Sync>(
     alloc: Global,
     rt: &R,
