@@ -2,10 +2,14 @@
 _seqopt() {
   local word=${COMP_WORDS[COMP_CWORD]} options=
   if ((COMP_CWORD == 1)); then
-    options='check walk replay'
+    options='check opt validate walk run replay gen'
+  elif [[ ${COMP_WORDS[COMP_CWORD - 1]} == --form ]]; then
+    options='text summary'
   elif [[ $word == -* ]]; then
     case ${COMP_WORDS[1]} in
       walk) options='--order --picks --seed --steps' ;;
+      run) options='--seed --steps' ;;
+      gen) options='--number --functions --form' ;;
     esac
   fi
   mapfile -t COMPREPLY < <(compgen -W "$options" -- "$word")

@@ -12,4 +12,4 @@
 pub mod laws;
 mod lifting;
 
-pub use lifting::{lift, lift_along};
+pub use lifting::{lift, lift_along, lift_chain};

@@ -3,9 +3,11 @@ ghost use Rattle.std.specs.Prelude.{◌≡◌, IfOk};
 ghost use Rattle.view_machine.specs.Runs.{IsJournalRun};
 ghost use Rattle.refinement.specs.Playings.{AreFew};
 ghost use Rattle.simulation.specs.Conditions.{IsAcceptedTarget, IsLifted, have_equal_counts, has_new_registers};
+ghost use Rattle.simulation.specs.Chain.{AreAcceptedTargets};
 
 use il_syntax::{Function, Program};
 use message_memory::MessageMemory;
+use pass_chain::ProgramChain;
 use refinement::play;
 use std::alloc::Global;
 use values_undef::{Journal, NoMemory};
@@ -74,4 +76,28 @@ pub fn lift_along<M: MessageMemory>(
     let of_introduced = lift::<M>(alloc, introduced, loaded, &of_loaded)?;
     let of_stored = lift::<M>(alloc, stored, introduced, &of_introduced)?;
     lift::<M>(alloc, source, stored, &of_stored)
+}
+
+/// Lifts a journal of the last program of a chain to the first. The answer is a run of the source that the journal
+/// refines: with the same outputs and ending, or one that fails after a beginning of the outputs. The only error is
+/// want of memory.
+pub fn lift_chain<M: MessageMemory>(
+    alloc: Global,
+    c: &ProgramChain,
+    j: &Journal,
+) -> Result<Journal, NoMemory>
+    requires accepted { AreAcceptedTargets c.now }
+    requires run { IsJournalRun c.now.undead j.now }
+    requires few { AreFew j.now }
+    ensures { IfOk result (λ js. IsLifted c.now.source c.now.undead j.now js) }
+{
+    lift_along::<M>(
+        alloc,
+        &c.source,
+        &c.stored,
+        &c.introduced,
+        &c.loaded,
+        &c.undead,
+        j,
+    )
 }

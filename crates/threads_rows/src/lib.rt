@@ -1,6 +1,8 @@
-//! Rows of the shared memory and of the runner, in real threads: what no clause says of them is that workers run
+//! Rows of the shared memory and of `run`, in real threads: what no clause says of them is that workers run
 //! beside each other, and that calls return.
 #![tactic(auto)]
 
 #[cfg(test)]
-mod tests;
+mod accesses;
+#[cfg(test)]
+mod gates;

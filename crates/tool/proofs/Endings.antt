@@ -14,7 +14,10 @@ use Rattle.walker.specs.Turns.{has_ended}
 use Rattle.walker.specs.Complete.{IsComplete, has_spent}
 use Rattle.tool.specs.declared.status.Status.{Status}
 use Rattle.tool.specs.Statuses.{status_of}
-use Rattle.tool.specs.Laws.{TellsEnd, StatusesTellTheEnd}
+use Rattle.tool.specs.Headline.{IsReport}
+use Rattle.tool.specs.Walk.{IsWalkOf}
+use Rattle.tool.specs.Laws.{TellsEnd, TellEnds, StatusesTellTheEnd}
+use Rattle.tool.proofs.HeadlineFacts.{same_threads}
 
 -- a thread that ended either finished or was stopped
 
@@ -90,7 +93,12 @@ module _ (p : Program) (entries : List Entry) (steps : ℕ) (complete : IsComple
       let same : 0 + one.0 ≡ one.0 = omega arith in
       (one.0, one.1, ended_unfinished entries one.0 (ended e one.0 one.1) (subst (λ k. has_finished entries k ≡ false) same one.2))
 
+pub ends_told : (IsOwn : Program → List Entry → Type 0) (steps : ℕ) → ((p : Program) (entries : List Entry) → IsOwn p entries → IsComplete p entries steps) → TellEnds IsOwn
+ends_told IsOwn steps complete bytes out s r =
+    let ran = r.chain.undead in
+    let threads : length ran.threads ≡ length r.program.threads = ap length (same_threads r.program r.chain r.headline.optimised) in
+    let told = tells ran r.journal steps (complete ran r.journal r.own) (last_fails r.journal) (all_finished r.journal (length ran.threads)) refl refl in
+    subst (TellsEnd r.journal (length r.program.threads)) (sym r.status) (subst (λ (n : ℕ). TellsEnd r.journal n (status_of (ending_in r.journal n))) threads told)
+
 pub statuses_tell : StatusesTellTheEnd
-statuses_tell order draws steps bytes out s r =
-    subst (TellsEnd r.entries (length r.program.threads)) (sym r.status)
-    (tells r.program r.entries steps r.walk.complete (last_fails r.entries) (all_finished r.entries (length r.program.threads)) refl refl)
+statuses_tell order draws steps = ends_told (IsWalkOf order draws steps) steps (λ p entries w. w.complete)

@@ -1,17 +1,25 @@
 -- The table of the commands: what each of them means.
 use Rattle.std.specs.Prelude.{ℕ, List, Option}
 use Rattle.words.specs.declared.command.Command.{Command}
-use Rattle.words.specs.declared.command.Command.TheVariants.{Check, Walk, Replay}
+use Rattle.words.specs.declared.command.Command.TheVariants.{Check, Opt, Validate, Walk, Run, Replay, Gen}
 use Rattle.tool.specs.declared.status.Status.{Status}
 use Rattle.tool.specs.Meaning.{CommandMeaning}
 use Rattle.tool.specs.Check.{check_meaning}
+use Rattle.tool.specs.Opt.{opt_meaning}
+use Rattle.tool.specs.Validate.{validate_meaning}
 use Rattle.tool.specs.Walk.{walk_meaning}
+use Rattle.tool.specs.Run.{run_meaning}
 use Rattle.tool.specs.Replay.{replay_meaning}
+use Rattle.tool.specs.Gen.{gen_meaning}
 
 abbrev pub meaning_of : Command → CommandMeaning
 meaning_of Check = check_meaning
+meaning_of Opt = opt_meaning
+meaning_of Validate = validate_meaning
 meaning_of (Walk order draws steps) = walk_meaning order draws steps
+meaning_of (Run seed steps) = run_meaning seed steps
 meaning_of Replay = replay_meaning
+meaning_of (Gen number functions form) = gen_meaning number functions form
 
 -- the most bytes that the input of a command may have, where it reads any
 abbrev pub limit_of : Command → Option ℕ
@@ -20,6 +28,16 @@ limit_of command = (meaning_of command).limit
 -- what the caller of a command sees to
 abbrev pub HasCondition : Command → Type 0
 HasCondition command = (meaning_of command).condition
+
+-- the commands that wait for nothing: all but `run`
+abbrev pub WaitsForNothing : Command → Type 0
+WaitsForNothing Check = Unit {0}
+WaitsForNothing Opt = Unit {0}
+WaitsForNothing Validate = Unit {0}
+WaitsForNothing (Walk order draws steps) = Unit {0}
+WaitsForNothing (Run seed steps) = ⊥
+WaitsForNothing Replay = Unit {0}
+WaitsForNothing (Gen number functions form) = Unit {0}
 
 -- the output of a command for its whole input, and the status that goes with it
 abbrev pub IsOutputOf : Command → List ℕ → List ℕ → Status → Type 0

@@ -1,10 +1,8 @@
 -- `walk`: a run of a program in turns, with choices that are picked or drawn.
 use Rattle.std.specs.Prelude.{◌≡◌, ◌⊎◌, ℕ, ◌≤◌, List, Some, length}
 use Rattle.values_undef.specs.declared.journal.Entry.{Entry}
-use Rattle.values_undef.specs.Journal.{ending_in}
 use Rattle.il_syntax.specs.declared.program.Program.{Program}
 use Rattle.il_parser.specs.Text.{SpellsProgram}
-use Rattle.journal_text.specs.Report.{report_text}
 use Rattle.view_machine.specs.Runs.{IsJournalRun}
 use Rattle.walker.specs.Complete.{IsComplete}
 use Rattle.walker.specs.Turns.{InTurns}
@@ -13,8 +11,8 @@ use Rattle.words.specs.declared.command.Drawing.{Drawing}
 use Rattle.words.specs.declared.command.Drawing.TheVariants.{Seed, Picks}
 use Rattle.tool.specs.declared.status.Status.{Status}
 use Rattle.tool.specs.declared.status.Status.TheVariants as status
-use Rattle.tool.specs.Statuses.{status_of}
 use Rattle.tool.specs.Meaning.{CommandMeaning}
+use Rattle.tool.specs.Headline.{IsReport}
 use Rattle.tool.specs.Refusals.{IsTextRefusal, HasTextRefusal, text_limit}
 
 -- the choices of a journal were drawn from the seed, or picked by the list
@@ -30,18 +28,12 @@ pub record IsWalkOf (order : List ℕ) (draws : Drawing) (steps : ℕ) (p : Prog
   pub turns : InTurns entries order (length p.threads)
   pub choices : HasChoices draws p entries
 
--- The output is the report of a walk of the program that the bytes spell. The program that is run is the one that was
--- given, so the source's journal is the same.
-pub record IsReport (order : List ℕ) (draws : Drawing) (steps : ℕ) (bytes out : List ℕ) (result : Status) : Type 0 where
-  pub program : Program
-  pub entries : List Entry
-  pub spelled : SpellsProgram bytes program
-  pub walk : IsWalkOf order draws steps program entries
-  pub written : out ≡ report_text program entries entries (length program.threads)
-  pub status : result ≡ status_of (ending_in entries (length program.threads))
+-- The output is the report of a walk of the optimised program.
+abbrev pub IsWalkReport : List ℕ → Drawing → ℕ → List ℕ → List ℕ → Status → Type 0
+IsWalkReport order draws steps bytes out result = IsReport (IsWalkOf order draws steps) bytes out result
 
 abbrev pub IsWalkOutput : List ℕ → Drawing → ℕ → List ℕ → List ℕ → Status → Type 0
-IsWalkOutput order draws steps bytes out result = IsReport order draws steps bytes out result ⊎ IsTextRefusal bytes out result
+IsWalkOutput order draws steps bytes out result = IsWalkReport order draws steps bytes out result ⊎ IsTextRefusal bytes out result
 
 -- its budget is from 1 to 16384 steps
 abbrev pub walk_meaning : List ℕ → Drawing → ℕ → CommandMeaning

@@ -2,41 +2,69 @@
 //! function `output` makes the whole output from the whole input; its meaning stands in the file of
 //! its name in `specs/`.
 ghost use Rattle.std.specs.Prelude.{◌≡◌, IfOk};
-ghost use Rattle.tool.specs.Commands.{limit_of, HasCondition, IsOutputOf};
+ghost use Rattle.tool.specs.Commands.{limit_of, HasCondition, WaitsForNothing, IsOutputOf};
 ghost use Rattle.tool.specs.Outputs.{IsWithinLimit};
 
 mod checking;
+mod generating;
+mod optimising;
 mod replaying;
+mod reporting;
+pub(crate) mod running;
+mod validating;
 mod walking;
 
 use crate::answer::Output;
 use std::alloc::Global;
+use std::thread::Threads;
 use values_undef::NoMemory;
 use words::Command;
+
+/// The most bytes of a program's text.
+pub(crate) const TEXT_LIMIT: u64 = 1_048_576;
 
 /// The most bytes that the input of a command may have; nothing where it reads none.
 pub(crate) fn limit(command: &Command) -> Option<u64>
     ensures { result ≡ limit_of command.now }
 {
     match command {
-        Command::Check | Command::Walk { .. } => Some(1_048_576),
+        Command::Check | Command::Opt | Command::Walk { .. } | Command::Run { .. } => {
+            Some(TEXT_LIMIT)
+        }
+        Command::Validate => Some(4_194_304),
         Command::Replay => Some(134_217_728),
+        Command::Gen { .. } => None,
     }
 }
 
-/// The output for an input that was read to its end, or for none where the command reads none.
-pub(crate) fn output_of(alloc: Global, command: &Command, input: &[u8]) -> Result<Output, NoMemory>
+/// The output for an input that was read to its end, or for none where the command reads none. `run`, whose
+/// threads wait for each other, has its output elsewhere.
+pub(crate) fn output_of<R: Threads + Sync>(
+    alloc: Global,
+    rt: &R,
+    command: &Command,
+    input: &[u8],
+) -> Result<Output, NoMemory>
+    requires quiet { WaitsForNothing command.now }
     requires condition { HasCondition command.now }
     requires within { IsWithinLimit (limit_of command.now) input.now }
     ensures { IfOk result (λ o. IsOutputOf command.now input.now o.bytes.items o.status) }
 {
     match command {
         Command::Check => checking::output(alloc, input),
+        Command::Opt => optimising::output(alloc, rt, input),
+        Command::Validate => validating::output(alloc, input),
         Command::Walk {
             order,
             draws,
             steps,
-        } => walking::output(alloc, order.turns.as_slice(), draws, *steps, input),
+        } => walking::output(alloc, rt, order.turns.as_slice(), draws, *steps, input),
+        Command::Run { .. } => unreachable!(),
         Command::Replay => replaying::output(alloc, input),
+        Command::Gen {
+            number,
+            functions,
+            form,
+        } => generating::output(alloc, rt, *number, *functions, *form),
     }
 }

@@ -9,20 +9,26 @@ use Rattle.std.proofs.lemmas.Fmt.{decimal_injective}
 use Rattle.std.proofs.lemmas.Slice.Eq.{bytes_eq-Decides}
 use Rattle.clap.specs.Walk.{Row}
 use Rattle.clap.specs.Matches.{subcommand_name_of}
-use Rattle.clap.specs.Simple.{built, is_simple, subcommand_of, subcommand_rows, subcommand_rows_of}
+use Rattle.clap.specs.Simple.{App, HasMatchesOf, built, is_simple, subcommand_of, subcommand_rows, subcommand_rows_of}
 use Rattle.clap.specs.Faults.{fault_of, is_simple_and_free}
+use Rattle.clap.specs.Kinds.{HasKind}
+use Rattle.clap.specs.Words.{kind_of}
+use Rattle.clap.specs.declared.error.Error.{Error}
+use Rattle.clap.specs.declared.error.kind.ErrorKind.TheVariants as kind
 use Rattle.clap.specs.declared.parser.matches.ArgMatches.{ArgMatches}
 use Rattle.clap.specs.declared.parser.matches.ArgMatches.TheViews.{out-ArgMatches, out-SubCommand}
 use Rattle.words.specs.Commands.{commands}
 use Rattle.words.specs.Reading.{ReadsCommand}
-use Rattle.words.specs.Meaning.{ListsNumbers, Means, GivesValues, GivesDraws, GivesNumber, GivesNumbers, name_of, options_of}
+use Rattle.words.specs.Meaning.{ListsNumbers, Means, GivesValues, GivesDraws, GivesNumber, GivesNumbers, IsFormOf, SetsNumber, form_word, name_of, options_of}
 use Rattle.words.specs.Options.{Options, AllowsSettings, is_option, value_of}
 use Rattle.words.specs.Program.{clap_program, row_of}
 use Rattle.words.specs.Spelling.{Setting, WordText}
 use Rattle.words.specs.declared.command.Command.{Command}
-use Rattle.words.specs.declared.command.Command.TheVariants.{Check, Replay, Walk}
+use Rattle.words.specs.declared.command.Command.TheVariants.{Check, Gen, Opt, Replay, Run, Validate, Walk}
 use Rattle.words.specs.declared.command.Drawing.{Drawing}
 use Rattle.words.specs.declared.command.Drawing.TheVariants.{Seed, Picks}
+use Rattle.words.specs.declared.command.Form.{Form}
+use Rattle.words.specs.declared.command.Form.TheVariants.{Text, Summary}
 use Rattle.words.specs.declared.command.WordsFault.{WordsFault}
 use Rattle.words.specs.declared.command.WordsFault.TheVariants.{Refused, NoMemory}
 use Rattle.words.proofs.Agreement.{Taken, words_taken, words_take, options_no_dashes}
@@ -54,6 +60,27 @@ none_dashes : (words : List WordText) → NoDashes words → list_any (λ w. byt
 none_dashes [] h = refl
 none_dashes (w ∷ ws) h = rw h.0 (none_dashes ws h.1)
 
+-- what clap has read, or why it has refused
+pub clap_reads : (a : App) (words : List WordText) (m : ArgMatches) → a ≡ clap_program commands → (is_simple_and_free a ≡ true → fault_of a words ≡ []) → HasMatchesOf a words m
+    → (fault_of (clap_program commands) words ≡ []) × (subcommand_rows_of m ≡ subcommand_of (clap_program commands) words)
+clap_reads a words m same kinds has = (
+  subst (λ (b : App). is_simple_and_free b ≡ true → fault_of b words ≡ []) same kinds program_simple,
+  (subst (λ (b : App). HasMatchesOf b words m) same has program_is_simple).1,
+)
+
+no_kind : (e : Error) → (kind_of e ≡ kind.OutOfMemory → ⊥) → HasKind [] e → ⊥
+no_kind e other (inl memory) = other memory
+no_kind e other (inr among) = among
+
+pub clap_refuses : (a : App) (words : List WordText) (e : Error) → a ≡ clap_program commands → (is_simple_and_free a ≡ true → HasKind (fault_of a words) e)
+    → (kind_of e ≡ kind.OutOfMemory → ⊥) → fault_of (clap_program commands) words ≡ [] → ⊥
+clap_refuses a words e same kinds other none =
+    no_kind e other (subst (λ ks. HasKind ks e) none (subst (λ (b : App). is_simple_and_free b ≡ true → HasKind (fault_of b words) e) same kinds program_simple))
+
+-- no subcommand was read
+pub no_rows : (m : ArgMatches) (p : WordText × List Row) → None ≡ option_map (λ q. q.1) (subcommand_rows_of m) → subcommand_rows_of m ≡ Some p → ⊥
+no_rows m p none some = let bad : ◌≡◌ {A = Option (List Row)} None (Some p.1) = none ∙ ap (option_map (λ q. q.1)) some in absurd cc
+
 -- ---- values
 
 one_number : (low high default n m : ℕ) (value : Option WordText) → high < 2 ^ 64 → GivesNumber low high default value n → GivesNumber low high default value m → n ≡ m
@@ -66,17 +93,56 @@ plain_number low high default n (Some t) text h a e =
     let same : t ≡ text = cc in
     subst IsPlain (sym a.0 ∙ same) (plain_decimal n (omega arith))
 
+one_number_set : (low high n m : ℕ) (value : Option WordText) → high < 2 ^ 64 → SetsNumber low high value n → SetsNumber low high value m → n ≡ m
+one_number_set low high n m None h a b = absurd a
+one_number_set low high n m (Some text) h a b = decimal_injective n m (omega arith) (omega arith) (sym a.0 ∙ b.0)
+
+plain_number_set : (low high n : ℕ) (value : Option WordText) (text : WordText) → high < 2 ^ 64 → SetsNumber low high value n → value ≡ Some text → IsPlain text
+plain_number_set low high n None text h a e = absurd a
+plain_number_set low high n (Some t) text h a e =
+    let same : t ≡ text = cc in
+    subst IsPlain (sym a.0 ∙ same) (plain_decimal n (omega arith))
+
+apart : (a b : WordText) → bytes_eq a b ≡ false → a ≡ b → ⊥
+apart a b differs same = let bad : true ≡ false = sym ((bytes_eq-Decides a b).1 same) ∙ differs in absurd cc
+
+form_of_word : (f g : Form) → form_word f ≡ form_word g → f ≡ g
+form_of_word Text Text e = refl
+form_of_word Text Summary e = absurd (apart (codes "text") (codes "summary") refl e)
+form_of_word Summary Text e = absurd (apart (codes "summary") (codes "text") refl e)
+form_of_word Summary Summary e = refl
+
+one_form : (f g : Form) (value : Option WordText) → IsFormOf value f → IsFormOf value g → f ≡ g
+one_form f g None a b = a ∙ sym b
+one_form f g (Some text) a b = form_of_word f g (sym a ∙ b)
+
+plain_form_word : (f : Form) → IsPlain (form_word f)
+plain_form_word Text = refl
+plain_form_word Summary = refl
+
+plain_form : (f : Form) (value : Option WordText) (text : WordText) → IsFormOf value f → value ≡ Some text → IsPlain text
+plain_form f None text a e = absurd cc
+plain_form f (Some t) text a e = let same : t ≡ text = cc in subst IsPlain (sym a ∙ same) (plain_form_word f)
+
 -- ---- commands
 
 command_found : (c : Command) → find (λ p. bytes_eq p.0 (name_of c)) commands ≡ Some (name_of c, options_of c)
 command_found Check = refl
-command_found Replay = refl
+command_found Opt = refl
+command_found Validate = refl
 command_found (Walk order draws steps) = refl
+command_found (Run seed steps) = refl
+command_found Replay = refl
+command_found (Gen number functions form) = refl
 
 command_named : (c : Command) → list_all is_named (options_of c) ≡ true
 command_named Check = refl
-command_named Replay = refl
+command_named Opt = refl
+command_named Validate = refl
 command_named (Walk order draws steps) = refl
+command_named (Run seed steps) = refl
+command_named Replay = refl
+command_named (Gen number functions form) = refl
 
 -- a name of a list of options is that of the first, or of the rest
 option_cases : (o : WordText × Bool) (os : Options) (name : WordText) → is_option (o ∷ os) name ≡ true → (o.0 ≡ name) ⊎ (is_option os name ≡ true)
@@ -124,6 +190,8 @@ one_draws os (Picks a) (Picks b) s t =
 
 plain_settings : (c : Command) (os : List Setting) → GivesValues os c → PlainValues (options_of c) os
 plain_settings Check os s name value option is = absurd cc
+plain_settings Opt os s name value option is = absurd cc
+plain_settings Validate os s name value option is = absurd cc
 plain_settings (Walk order draws steps) os s name value option is = first (option_cases (codes "order", false) ((codes "picks", false) ∷ ((codes "seed", false) ∷ ((codes "steps", false) ∷ []))) name option)
   where
     fourth : (codes "steps" ≡ name) ⊎ (is_option [] name ≡ true) → IsPlain value
@@ -141,19 +209,52 @@ plain_settings (Walk order draws steps) os s name value option is = first (optio
     first : (codes "order" ≡ name) ⊎ (is_option ((codes "picks", false) ∷ ((codes "seed", false) ∷ ((codes "steps", false) ∷ []))) name ≡ true) → IsPlain value
     first (inl same) = plain_list 15 (value_of (codes "order") os) order value (omega arith) s.0 (ap (λ n. value_of n os) same ∙ is)
     first (inr rest) = second (option_cases (codes "picks", false) ((codes "seed", false) ∷ ((codes "steps", false) ∷ [])) name rest)
+plain_settings (Run seed steps) os s name value option is = first (option_cases (codes "seed", false) ((codes "steps", false) ∷ []) name option)
+  where
+    second : (codes "steps" ≡ name) ⊎ (is_option [] name ≡ true) → IsPlain value
+    second (inl same) = plain_number 1 16384 1000 steps (value_of (codes "steps") os) value (omega arith) s.1 (ap (λ n. value_of n os) same ∙ is)
+    second (inr none) = absurd cc
+
+    first : (codes "seed" ≡ name) ⊎ (is_option ((codes "steps", false) ∷ []) name ≡ true) → IsPlain value
+    first (inl same) = plain_number 0 18446744073709551615 0 seed (value_of (codes "seed") os) value (omega arith) s.0 (ap (λ n. value_of n os) same ∙ is)
+    first (inr rest) = second (option_cases (codes "steps", false) [] name rest)
 plain_settings Replay os s name value option is = absurd cc
+plain_settings (Gen number functions form) os s name value option is = first (option_cases (codes "number", true) ((codes "functions", false) ∷ ((codes "form", false) ∷ [])) name option)
+  where
+    third : (codes "form" ≡ name) ⊎ (is_option [] name ≡ true) → IsPlain value
+    third (inl same) = plain_form form (value_of (codes "form") os) value s.2 (ap (λ n. value_of n os) same ∙ is)
+    third (inr none) = absurd cc
+
+    second : (codes "functions" ≡ name) ⊎ (is_option ((codes "form", false) ∷ []) name ≡ true) → IsPlain value
+    second (inl same) = plain_number 1 256 4 functions (value_of (codes "functions") os) value (omega arith) s.1 (ap (λ n. value_of n os) same ∙ is)
+    second (inr rest) = third (option_cases (codes "form", false) [] name rest)
+
+    first : (codes "number" ≡ name) ⊎ (is_option ((codes "functions", false) ∷ ((codes "form", false) ∷ [])) name ≡ true) → IsPlain value
+    first (inl same) = plain_number_set 0 18446744073709551615 number (value_of (codes "number") os) value (omega arith) s.0 (ap (λ n. value_of n os) same ∙ is)
+    first (inr rest) = second (option_cases (codes "functions", false) ((codes "form", false) ∷ []) name rest)
 
 -- two commands of one name are of one kind
 same_name : (c d : Command) → bytes_eq (name_of c) (name_of d) ≡ false → name_of c ≡ name_of d → ⊥
-same_name c d differs same = let bad : true ≡ false = sym ((bytes_eq-Decides (name_of c) (name_of d)).1 same) ∙ differs in absurd cc
+same_name c d differs same = apart (name_of c) (name_of d) differs same
 
 one_command : (os : List Setting) (c d : Command) → name_of c ≡ name_of d → GivesValues os c → GivesValues os d → c ≡ d
 one_command os Check Check same s t = refl
+one_command os Opt Opt same s t = refl
+one_command os Validate Validate same s t = refl
 one_command os Replay Replay same s t = refl
 one_command os (Walk order draws steps) (Walk order' draws' steps') same s t =
     let orders : order ≡ order' = one_list 15 (value_of (codes "order") os) order order' (omega arith) s.0 t.0 in
     let drawings : draws ≡ draws' = one_draws os draws draws' s.1 t.1 in
     let all_steps : steps ≡ steps' = one_number 1 16384 1000 steps steps' (value_of (codes "steps") os) (omega arith) s.2 t.2 in
+    cc
+one_command os (Run seed steps) (Run seed' steps') same s t =
+    let seeds : seed ≡ seed' = one_number 0 18446744073709551615 0 seed seed' (value_of (codes "seed") os) (omega arith) s.0 t.0 in
+    let all_steps : steps ≡ steps' = one_number 1 16384 1000 steps steps' (value_of (codes "steps") os) (omega arith) s.1 t.1 in
+    cc
+one_command os (Gen number functions form) (Gen number' functions' form') same s t =
+    let numbers : number ≡ number' = one_number_set 0 18446744073709551615 number number' (value_of (codes "number") os) (omega arith) s.0 t.0 in
+    let all_functions : functions ≡ functions' = one_number 1 256 4 functions functions' (value_of (codes "functions") os) (omega arith) s.1 t.1 in
+    let forms : form ≡ form' = one_form form form' (value_of (codes "form") os) s.2 t.2 in
     cc
 one_command os c d same s t = absurd (same_name c d refl same)
 
@@ -179,8 +280,12 @@ pub record Passes (words : List WordText) (c : Command) (settings : List Setting
 
 name_no_dash : (c : Command) → IsNoDash (name_of c)
 name_no_dash Check = refl
-name_no_dash Replay = refl
+name_no_dash Opt = refl
+name_no_dash Validate = refl
 name_no_dash (Walk order draws steps) = refl
+name_no_dash (Run seed steps) = refl
+name_no_dash Replay = refl
+name_no_dash (Gen number functions form) = refl
 
 pub passes : (words : List WordText) (c : Command) (m : Means words c) → Passes words c m.settings
 passes words c m =

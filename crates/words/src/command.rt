@@ -14,11 +14,24 @@ pub enum Drawing {
     Picks { list: Turns },
 }
 
+/// What is written of a program that is made from a number.
+#[derive(Debug, Clone, Copy, PartialEq, Eq)]
+pub enum Form {
+    /// The program's text.
+    Text,
+    /// What the passes did to it and how a run of it ended, in numbers.
+    Summary,
+}
+
 /// What the words ask for.
 #[derive(Debug, Drop)]
 pub enum Command {
     /// Read a program and say whether it is one.
     Check,
+    /// Optimise a program.
+    Opt,
+    /// Judge whether one program may stand in the place of another.
+    Validate,
     /// Run a program on one thread: whose turn it is at first, where the choices come from, and
     /// how many steps each of its threads may make.
     Walk {
@@ -26,8 +39,17 @@ pub enum Command {
         draws: Drawing,
         steps: u64,
     },
+    /// Run a program on threads of its own: what its choices are drawn from, and how many steps each
+    /// of its threads may make.
+    Run { seed: u64, steps: u64 },
     /// Judge the journal of a run.
     Replay,
+    /// Make a program of so many functions from a number.
+    Gen {
+        number: u64,
+        functions: u32,
+        form: Form,
+    },
 }
 
 /// Why words gave no command.

@@ -11,6 +11,6 @@ mod numbers;
 mod program;
 mod read;
 
-pub use command::{Command, Drawing, WordsFault};
+pub use command::{Command, Drawing, Form, WordsFault};
 pub use laws::words_mean_one_command;
 pub use read::read_words;

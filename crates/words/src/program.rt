@@ -3,7 +3,7 @@ ghost use Rattle.std.specs.Prelude.{◌≡◌, List, [], ◌∷◌, Bool, true, 
 ghost use Rattle.clap.specs.Words.{app_of, rule_of};
 ghost use Rattle.clap.specs.declared.builder.command.Command.TheViews.{out-Command as fields_of};
 ghost use Rattle.words.specs.Program.{clap_rule, clap_command, clap_program};
-ghost use Rattle.words.specs.Commands.{commands, walk_options};
+ghost use Rattle.words.specs.Commands.{commands, gen_options, run_options, walk_options};
 
 use clap::{Arg, ArgAction, Command};
 use std::alloc::{AllocError, Global};
@@ -16,11 +16,33 @@ fn option<'a>(alloc: Global, name: &'a str) -> Arg<'a>
     Arg::new(alloc, name).long(name).action(ArgAction::Set)
 }
 
+/// An option that takes one value and may not be left out.
+fn required_option<'a>(alloc: Global, name: &'a str) -> Arg<'a>
+    ensures rule { rule_of result ≡ clap_rule (name.entry.now, true) }
+    ensures local { result.global ≡ false }
+{
+    option(alloc, name).required(true)
+}
+
 fn check<'a>(alloc: Global) -> Command<'a>
     ensures app { app_of result ≡ clap_command (codes "check", []) }
     ensures local { (fields_of result).has_globals ≡ false }
 {
     Command::new(alloc, "check")
+}
+
+fn opt<'a>(alloc: Global) -> Command<'a>
+    ensures app { app_of result ≡ clap_command (codes "opt", []) }
+    ensures local { (fields_of result).has_globals ≡ false }
+{
+    Command::new(alloc, "opt")
+}
+
+fn validate<'a>(alloc: Global) -> Command<'a>
+    ensures app { app_of result ≡ clap_command (codes "validate", []) }
+    ensures local { (fields_of result).has_globals ≡ false }
+{
+    Command::new(alloc, "validate")
 }
 
 fn replay<'a>(alloc: Global) -> Command<'a>
@@ -41,6 +63,25 @@ fn walk<'a>(alloc: Global) -> Result<Command<'a>, AllocError>
         .arg(option(alloc, "steps"))
 }
 
+fn run<'a>(alloc: Global) -> Result<Command<'a>, AllocError>
+    ensures app { IfOk result (λ c. app_of c ≡ clap_command (codes "run", run_options)) }
+    ensures local { IfOk result (λ c. (fields_of c).has_globals ≡ false) }
+{
+    Command::new(alloc, "run")
+        .arg(option(alloc, "seed"))?
+        .arg(option(alloc, "steps"))
+}
+
+fn generating<'a>(alloc: Global) -> Result<Command<'a>, AllocError>
+    ensures app { IfOk result (λ c. app_of c ≡ clap_command (codes "gen", gen_options)) }
+    ensures local { IfOk result (λ c. (fields_of c).has_globals ≡ false) }
+{
+    Command::new(alloc, "gen")
+        .arg(required_option(alloc, "number"))?
+        .arg(option(alloc, "functions"))?
+        .arg(option(alloc, "form"))
+}
+
 /// The program, with help and version switched off.
 pub(crate) fn program<'a>(alloc: Global) -> Result<Command<'a>, AllocError>
     ensures { IfOk result (λ c. app_of c ≡ clap_program commands) }
@@ -52,6 +93,10 @@ pub(crate) fn program<'a>(alloc: Global) -> Result<Command<'a>, AllocError>
         .disable_version_flag(true)
         .subcommand_required(true)
         .subcommand(check(alloc))?
+        .subcommand(opt(alloc))?
+        .subcommand(validate(alloc))?
         .subcommand(walk(alloc)?)?
-        .subcommand(replay(alloc))
+        .subcommand(run(alloc)?)?
+        .subcommand(replay(alloc))?
+        .subcommand(generating(alloc)?)
 }

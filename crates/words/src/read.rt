@@ -1,18 +1,19 @@
 //! The command of the words.
 ghost use Rattle.std.specs.List.{list_any};
 ghost use Rattle.std.specs.Str.{bytes_eq};
-ghost use Rattle.std.specs.Prelude.{◌≡◌, None, ℕ, List, [], IfErr, IfOk, MatchResult, ◌↔◌, ◌≤◌, codes, map};
+ghost use Rattle.std.specs.Prelude.{◌≡◌, None, Some, ℕ, List, [], IfErr, IfOk, MatchResult, ◌↔◌, ◌≤◌, codes, map};
 ghost use Rattle.clap.specs.Words.{fault_of, found_of, kind_of, rows_of, subcommand_of, subcommand_rows_of};
 ghost use Rattle.words.specs.Commands.{commands};
-ghost use Rattle.words.specs.Meaning.{Means, GivesDraws, GivesNumber, GivesNumbers, GivesSeed};
+ghost use Rattle.words.specs.Meaning.{Means, GivesDraws, GivesForm, GivesNumber, GivesNumbers, GivesSeed, GivesSteps, IsFormOf, SetsNumber};
 ghost use Rattle.words.specs.Numbers.{AreNumbers};
 ghost use Rattle.words.specs.Reading.{IsPicks, IsSeed, ListsPicks, ReadsCommand};
 ghost use Rattle.words.specs.declared.command.Drawing.{Drawing};
+ghost use Rattle.words.specs.declared.command.Form.{Form};
 ghost use Rattle.words.specs.Options.{value_of};
 ghost use Rattle.words.specs.Program.{clap_program, row_of};
 ghost use Rattle.words.specs.Spelling.{Setting};
 
-use crate::command::{Command, Drawing, WordsFault};
+use crate::command::{Command, Drawing, Form, WordsFault};
 use crate::numbers::{number_within, numbers_within};
 use crate::program::program;
 use clap::ArgMatches;
@@ -61,12 +62,30 @@ fn number_or(
     high: u64,
     default: u64,
 ) -> Result<u64, WordsFault>
-    ensures { (os : List Setting) → rows_of (found_of settings.now) ≡ map row_of os
+    ensures value { (os : List Setting) → rows_of (found_of settings.now) ≡ map row_of os
         → MatchResult result (GivesNumber low high default (value_of name.now os))
         (λ e. (e ≡ WordsFault.Refused) × ((n : ℕ) → GivesNumber low high default (value_of name.now os) n → ⊥)) }
+    ensures bound { default ≤ high → IfOk result (λ n. n ≤ high) }
 {
     match settings.get_str(name) {
         None => Ok(default),
+        Some(text) => number_within(text, low, high),
+    }
+}
+
+/// The number that an option gives, which may not be left out.
+fn required_number(
+    settings: &ArgMatches,
+    name: &str,
+    low: u64,
+    high: u64,
+) -> Result<u64, WordsFault>
+    ensures { (os : List Setting) → rows_of (found_of settings.now) ≡ map row_of os
+        → MatchResult result (SetsNumber low high (value_of name.now os))
+        (λ e. (e ≡ WordsFault.Refused) × ((n : ℕ) → SetsNumber low high (value_of name.now os) n → ⊥)) }
+{
+    match settings.get_str(name) {
+        None => Err(WordsFault::Refused),
         Some(text) => number_within(text, low, high),
     }
 }
@@ -109,11 +128,27 @@ fn draws(alloc: Global, settings: &ArgMatches) -> Result<Drawing, WordsFault>
     }
 }
 
+/// The number that starts the generators of random numbers.
+fn seed_number(settings: &ArgMatches) -> Result<u64, WordsFault>
+    ensures { (os : List Setting) → rows_of (found_of settings.now) ≡ map row_of os
+        → MatchResult result (GivesSeed os) (λ e. (e ≡ WordsFault.Refused) × ((n : ℕ) → GivesSeed os n → ⊥)) }
+{
+    number_or(settings, "seed", 0, u64::MAX, 0)
+}
+
+/// How many steps each thread may make.
+fn steps(settings: &ArgMatches) -> Result<u64, WordsFault>
+    ensures { (os : List Setting) → rows_of (found_of settings.now) ≡ map row_of os
+        → MatchResult result (GivesSteps os) (λ e. (e ≡ WordsFault.Refused) × ((n : ℕ) → GivesSteps os n → ⊥)) }
+{
+    number_or(settings, "steps", 1, 16384, 1000)
+}
+
 fn seed(settings: &ArgMatches) -> Result<Drawing, WordsFault>
     ensures { (os : List Setting) → rows_of (found_of settings.now) ≡ map row_of os
         → MatchResult result (λ d. IsSeed os d) (λ e. e ≡ WordsFault.Refused → (n : ℕ) → GivesSeed os n → ⊥) }
 {
-    let seed = number_or(settings, "seed", 0, u64::MAX, 0)?;
+    let seed = seed_number(settings)?;
     Ok(Drawing::Seed { seed })
 }
 
@@ -141,11 +176,55 @@ fn walk(alloc: Global, settings: &ArgMatches) -> Result<Command, WordsFault>
 {
     let order = numbers_or_none(alloc, settings, "order", 15)?;
     let draws = draws(alloc, settings)?;
-    let steps = number_or(settings, "steps", 1, 16384, 1000)?;
+    let steps = steps(settings)?;
     Ok(Command::Walk {
         order,
         draws,
         steps,
+    })
+}
+
+fn run(settings: &ArgMatches) -> Result<Command, WordsFault>
+    ensures { (os : List Setting) → rows_of (found_of settings.now) ≡ map row_of os → ReadsCommand (codes "run") os result }
+{
+    let seed = seed_number(settings)?;
+    let steps = steps(settings)?;
+    Ok(Command::Run { seed, steps })
+}
+
+/// The form of this word.
+fn form_of(word: &str) -> Result<Form, WordsFault>
+    ensures { MatchResult result (IsFormOf (Some word.now))
+        (λ e. (e ≡ WordsFault.Refused) × ((form : Form) → IsFormOf (Some word.now) form → ⊥)) }
+{
+    match word {
+        "text" => Ok(Form::Text),
+        "summary" => Ok(Form::Summary),
+        _ => Err(WordsFault::Refused),
+    }
+}
+
+/// The form that the settings give, or the text.
+fn form(settings: &ArgMatches) -> Result<Form, WordsFault>
+    ensures { (os : List Setting) → rows_of (found_of settings.now) ≡ map row_of os
+        → MatchResult result (GivesForm os) (λ e. (e ≡ WordsFault.Refused) × ((form : Form) → GivesForm os form → ⊥)) }
+{
+    match settings.get_str("form") {
+        None => Ok(Form::Text),
+        Some(word) => form_of(word),
+    }
+}
+
+fn generating(settings: &ArgMatches) -> Result<Command, WordsFault>
+    ensures { (os : List Setting) → rows_of (found_of settings.now) ≡ map row_of os → ReadsCommand (codes "gen") os result }
+{
+    let number = required_number(settings, "number", 0, u64::MAX)?;
+    let functions = number_or(settings, "functions", 1, 256, 4)? as u32;
+    let form = form(settings)?;
+    Ok(Command::Gen {
+        number,
+        functions,
+        form,
     })
 }
 
@@ -155,8 +234,12 @@ fn command(alloc: Global, name: &str, settings: &ArgMatches) -> Result<Command, 
 {
     match name {
         "check" => Ok(Command::Check),
+        "opt" => Ok(Command::Opt),
+        "validate" => Ok(Command::Validate),
         "walk" => walk(alloc, settings),
+        "run" => run(settings),
         "replay" => Ok(Command::Replay),
+        "gen" => generating(settings),
         _ => Err(WordsFault::Refused),
     }
 }
@@ -175,11 +258,14 @@ fn has_dashes(words: &Words) -> bool
 /// of its range, or `--picks` stands with `--seed`. There is no help, no version, no short option and
 /// no abbreviation. A number is `0` or digits with no leading zero; numbers are listed by commas.
 ///
-/// - `check`
+/// - `check`, `opt`, `validate`
 /// - `walk`: `--order` (1 to 4096 numbers from 0 to 15, else the empty list), `--picks` (1 to 4096
 ///   numbers from 0 to 4294967295), `--seed` (a number of 64 bits, else 0), `--steps` (1 to 16384,
 ///   else 1000)
+/// - `run`: `--seed` and `--steps`, as for `walk`
 /// - `replay`
+/// - `gen`: `--number` (required, a number of 64 bits), `--functions` (1 to 256, else 4), `--form`
+///   (`text` or `summary`, else `text`)
 pub fn read_words(alloc: Global, words: &Words) -> Result<Command, WordsFault>
     ensures meant { IfOk result (λ c. Means words.now c) }
     // What words mean is never refused, and never read as another command.

@@ -10,7 +10,8 @@ use replay_text::{TextFault, read_replay};
 use std::alloc::Global;
 use values_undef::{Ending, NoMemory};
 
-fn ending_word(ending: Ending) -> &'static str
+/// How a run ended, as a word.
+pub(crate) fn ending_word(ending: Ending) -> &'static str
     ensures { result.now ≡ ending_word ending }
 {
     match ending {

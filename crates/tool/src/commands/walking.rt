@@ -1,4 +1,4 @@
-//! `walk`: a run of a program by one thread, which plays all of its threads.
+//! `walk`: a run of the optimised program by one thread, which plays all of its threads.
 ghost use Rattle.std.specs.Prelude.{◌≡◌, ◌<◌, ◌≤◌, ◌-◌, ◌^◌, length, IfOk};
 ghost use Rattle.values_undef.specs.Journal.{ending_in};
 ghost use Rattle.il_syntax.specs.WellFormed.{IsWellFormed};
@@ -6,21 +6,23 @@ ghost use Rattle.tool.specs.Walk.{IsWalkOf, IsWalkOutput};
 ghost use Rattle.words.specs.declared.command.Drawing.TheVariants.{Seed, Picks as Picking};
 
 use crate::answer::{Output, text_refused};
+use crate::commands::reporting::reported;
 use crate::memory::Memory;
-use crate::status::status_of;
 use chooser::{Draws, Picks};
+use flow_summary::Summed;
 use il_parser::parse;
 use il_syntax::Program;
-use journal_text::report;
+use parallel_driver::optimise;
 use std::alloc::Global;
+use std::thread::Threads;
 use thread_core::laws::well_formed_programs_are_proper;
-use values_undef::{Bytes, NoMemory, Outcome, Turns};
+use values_undef::{NoMemory, Outcome, Turns};
 use walker::laws::{draws_are_drawn, picks_are_picked};
 use words::Drawing;
 
 /// A walk whose choices are drawn from a seed.
 #[tactic(auto, using(crate::proofs::OutputLemmas::are_served))]
-fn drawn(
+pub(crate) fn drawn(
     alloc: Global,
     p: &Program,
     order: &[u32],
@@ -80,9 +82,11 @@ fn walked(
     }
 }
 
-/// The output of `walk` for this input.
-pub(crate) fn output(
+/// The output of `walk` for this input: the last program of the chain is walked, and its journal is lifted.
+#[tactic(auto, using(crate::proofs::HeadlineFacts::are_accepted))]
+pub(crate) fn output<R: Threads + Sync>(
     alloc: Global,
+    rt: &R,
     order: &[u32],
     draws: &Drawing,
     steps: u64,
@@ -97,10 +101,7 @@ pub(crate) fn output(
         Ok(p) => p,
         Err(fault) => return text_refused(alloc, input, fault),
     };
-    let Outcome { journal, ending } = walked(alloc, &p, order, draws, steps)?;
-    let Bytes { bytes } = report(alloc, &p, &journal, &journal, p.threads.len() as u32)?;
-    Ok(Output {
-        bytes,
-        status: status_of(ending),
-    })
+    let chain = optimise(rt, alloc, &Summed, &p)?;
+    let walk = walked(alloc, &chain.undead, order, draws, steps)?;
+    reported(alloc, &chain, &walk.journal)
 }

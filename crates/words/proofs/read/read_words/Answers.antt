@@ -3,7 +3,7 @@ use Rattle.clap.specs.Simple.{subcommand_of}
 use Rattle.clap.specs.Faults.{fault_of}
 use Rattle.words.specs.Commands.{commands}
 use Rattle.words.specs.Program.{clap_program}
-use Rattle.words.proofs.Meanings.{passes, meant, only, matched, only_memory}
+use Rattle.words.proofs.Meanings.{passes, meant, no_rows, only, matched, only_memory}
 use Rattle.words.proofs.WordTexts.{texts_of}
 use Rattle.words.proofs.read.read_words.Goals as goal
 
@@ -30,3 +30,8 @@ returns-in-Some-clause-only c d m =
     let same : texts_of c.as_slice.result.now ≡ c.args.words.now = ap texts_of c.as_slice.ensures.value ∙ c.in_ok-texts.ensures in
     let given = matched c.in_ok-matches.matches c.in-Some.name.now _ c.in-Some.ensures.name c.in-Some.ensures.rows in
     only c.args.words.now d m c.in-Some.name.now _ c.command.result (ap (subcommand_of (clap_program commands)) (sym same) ∙ sym c.in_ok-matches.ensures.ok.1 ∙ given) c.command.ensures
+
+pub returns-clause-only : goal.returns-clause-only
+returns-clause-only c d m =
+    let same : texts_of c.as_slice.result.now ≡ c.args.words.now = ap texts_of c.as_slice.ensures.value ∙ c.in_ok-texts.ensures in
+    absurd (no_rows c.in_ok-matches.matches _ c.in-None.ensures.rows (c.in_ok-matches.ensures.ok.1 ∙ ap (subcommand_of (clap_program commands)) same ∙ (passes c.args.words.now d m).rows))

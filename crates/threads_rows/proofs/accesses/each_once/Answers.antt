@@ -3,7 +3,7 @@ use Rattle.shared_memory.specs.declared.params.SharedParams.{SharedParams}
 use Rattle.shared_memory.specs.Passes.{PassValue, IsRow, IsPassOf}
 use Rattle.shared_memory.proofs.Callers.{length-fresh, fresh_row, row_kept, refill_same}
 use Rattle.threads_rows.proofs.Passing.{ready_list}
-use Rattle.threads_rows.proofs.tests.each_once.Goals as goal
+use Rattle.threads_rows.proofs.accesses.each_once.Goals as goal
 
 pub access_each-requires-clause-ready : goal.access_each-requires-clause-ready
 access_each-requires-clause-ready g c =

@@ -1,7 +1,7 @@
 use Rattle.std.proofs.Common.{subst}
 use Rattle.shared_memory.specs.Passes.{PassValue}
 use Rattle.threads_rows.specs.Each.{IsSamePass}
-use Rattle.threads_rows.proofs.tests.access_each.Goals as goal
+use Rattle.threads_rows.proofs.accesses.access_each.Goals as goal
 
 pub returns : goal.returns
 returns g c = λ k p lt.

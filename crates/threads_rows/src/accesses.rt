@@ -1,24 +1,21 @@
-//! Accesses by one thread and by two, and programs whose threads wait for each other.
+//! Accesses by one thread and by two.
 ghost use Rattle.std.specs.Prelude.{◌≡◌, ℕ, ◌<◌, ◌≤◌, IsTrue, length, slice_index_or};
 ghost use Rattle.message_memory.specs.Step.{IsProper};
 ghost use Rattle.shared_memory.specs.Slot.{first_memory, params_for};
 ghost use Rattle.shared_memory.specs.Passes.{PassValue};
-ghost use Rattle.thread_core.specs.Programs.{IsProperProgram};
 ghost use Rattle.threads_rows.specs.Each.{IsReadyPass, IsSamePass};
 
 use chooser::Draw;
-use il_syntax::{Atom, Block, Function, Location, Name, Program, Start, Stmt, well_formed};
+use il_syntax::{Atom, Block, Function, Location, Name, Program, Start, Stmt};
 use message_memory::PlainMemory;
 use shared_memory::{Pass, Shared};
 use sqlite_items::Items;
 use std::alloc::{AllocError, Global};
 use std::sync::Wait;
-use std::sync::atomic::{AtomicU64, Ordering};
 use std::test::Fail;
 use std::thread;
 use std::thread::Threads;
-use threaded_runner::{Gate, run_program};
-use values_undef::{Access, Cause, Ending, Entry, Event, Journal, NoMemory, Order, Val, ending_of};
+use values_undef::{Access, Cause, Entry, Event, Journal, NoMemory, Order, Val};
 
 fn list<T: Drop, const N: usize>(alloc: Global, items: [T; N]) -> Result<Items<T>, AllocError> {
     Ok(Items::from_vec(Vec::from_array(alloc, items)?))
@@ -229,110 +226,5 @@ fn a_failure_stops_the_others(rt: HostRuntime) -> Result<(), Fail> {
     let journal = row(&rt, rt.alloc(), 1, &failing, &READ)?;
     assert_eq!(rt; journal.entries.len(), 1);
     assert!(rt; journal.entries[0].event.is_failure());
-    Ok(())
-}
-
-// ---- gates
-
-/// The journal of store buffering, if its program may be run.
-fn run_through<R: Threads + Wait + Sync, G: Gate + Sync>(
-    rt: &R,
-    alloc: Global,
-    gate: &G,
-) -> Result<Journal, Fail> {
-    let p = store_buffering(alloc)?;
-    if !is_runnable(&p) {
-        return Err("not well-formed".into());
-    }
-    Ok(run_program::<PlainMemory, G, R>(rt, alloc, &p, 7, 1000, gate)?)
-}
-
-/// Whether the program may be run.
-fn is_runnable(p: &Program) -> bool
-    ensures proper { IsTrue result → IsProperProgram p.now }
-    ensures some { IsTrue result → 1 ≤ length p.now.threads }
-{
-    thread_core::laws::well_formed_programs_are_proper();
-    well_formed(p) && p.threads.len() == 2
-}
-
-/// Waits, for a while, until the flag is up; if it stays down, marks `late`.
-fn wait_for(flag: &AtomicU64, late: &AtomicU64) {
-    for _ in 0..1_000_000_000u64 {
-        if flag.load(Ordering::SeqCst) == 1 {
-            return;
-        }
-    }
-    late.store(1, Ordering::SeqCst);
-}
-
-/// Holds thread 0 before its first access until thread 1 has made two.
-#[derive(Drop)]
-struct Behind<'a> {
-    made: &'a AtomicU64,
-    late: &'a AtomicU64,
-}
-
-impl Gate for Behind<'_> {
-    fn before(&self, thread: u32, own: u64) {
-        if thread == 1 && own == 2 {
-            self.made.store(1, Ordering::SeqCst);
-        }
-        if thread == 0 && own == 0 {
-            wait_for(self.made, self.late);
-        }
-    }
-}
-
-#[test]
-fn a_gate_holds_a_thread(rt: HostRuntime) -> Result<(), Fail> {
-    let (made, late) = (AtomicU64::new(0), AtomicU64::new(0));
-    let gate = Behind {
-        made: &made,
-        late: &late,
-    };
-    let journal = run_through(&rt, rt.alloc(), &gate)?;
-    assert_eq!(rt; late.load(Ordering::SeqCst), 0);
-    assert_eq!(rt; ending_of(&journal, 2), Ending::Done);
-    assert_eq!(rt; journal.entries.len(), 8);
-    assert_eq!(rt; journal.entries[0].thread, 1);
-    assert_eq!(rt; journal.entries[1].thread, 1);
-    Ok(())
-}
-
-/// Each of two threads waits for the other before its second access, so they must run beside each other.
-#[derive(Drop)]
-struct Meet<'a> {
-    first: &'a AtomicU64,
-    second: &'a AtomicU64,
-    late: &'a AtomicU64,
-}
-
-impl Gate for Meet<'_> {
-    fn before(&self, thread: u32, own: u64) {
-        if own != 1 {
-            return;
-        }
-        let (mine, other) = match thread {
-            0 => (self.first, self.second),
-            _ => (self.second, self.first),
-        };
-        mine.store(1, Ordering::SeqCst);
-        wait_for(other, self.late);
-    }
-}
-
-#[test]
-fn two_threads_meet(rt: HostRuntime) -> Result<(), Fail> {
-    let (first, second, late) = (AtomicU64::new(0), AtomicU64::new(0), AtomicU64::new(0));
-    let gate = Meet {
-        first: &first,
-        second: &second,
-        late: &late,
-    };
-    let journal = run_through(&rt, rt.alloc(), &gate)?;
-    assert_eq!(rt; late.load(Ordering::SeqCst), 0);
-    assert_eq!(rt; ending_of(&journal, 2), Ending::Done);
-    assert_eq!(rt; journal.entries.len(), 8);
     Ok(())
 }

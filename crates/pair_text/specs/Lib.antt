@@ -1,0 +1,4 @@
+pub mod Division
+pub mod Refusals
+pub mod Reading
+pub mod Laws
