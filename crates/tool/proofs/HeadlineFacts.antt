@@ -58,11 +58,11 @@ same_threads p c o = ap (λ (q : Program). q.threads) o.undead
 
 unused : (n : ℕ) (entries : List Entry) (i : ℕ) → n ≤ i → AllByRecursion (λ e. e.thread < n) entries → used_steps entries i ≡ 0
 unused n [] i out all = refl
-unused n (e ∷ es) i out all = of_entry (e.thread == i) refl
+unused n (e ∷ es) i out all = of_entry (e.thread == i) refl (unused n es i out all.1)
   where
-    of_entry : (own : Bool) → (e.thread == i) ≡ own → (if own then entry_steps e else 0) + used_steps es i ≡ 0
-    of_entry true is = absurd (omega (arith, eqb-true e.thread i is, all.0, out))
-    of_entry false is = unused n es i out all.1
+    of_entry : (own : Bool) → (e.thread == i) ≡ own → used_steps es i ≡ 0 → (if own then entry_steps e else 0) + used_steps es i ≡ 0
+    of_entry true is rest = absurd (omega (arith, eqb-true e.thread i is, all.0, out))
+    of_entry false is rest = omega (arith, rest)
 
 pub are_few : (p : Program) (entries : List Entry) (steps : ℕ) → steps ≤ 16384 → IsJournalRun p entries → IsComplete p entries steps → AreFew entries
 are_few p entries steps less run complete i = go (cases_lt i (length p.threads))
