@@ -18,14 +18,15 @@ SameOutput one other s t = (one ≡ other) × (s ≡ t)
 
 -- a fault by its number
 
-fault_of : ℕ → Fault
-fault_of 1 = V1
-fault_of 2 = V2
-fault_of 3 = V3
-fault_of 4 = V4
-fault_of 5 = V5
-fault_of 6 = V6
-fault_of _ = V7
+abbrev fault_of : ℕ → Fault
+fault_of zero = V7
+fault_of (suc zero) = V1
+fault_of (suc (suc zero)) = V2
+fault_of (suc (suc (suc zero))) = V3
+fault_of (suc (suc (suc (suc zero)))) = V4
+fault_of (suc (suc (suc (suc (suc zero))))) = V5
+fault_of (suc (suc (suc (suc (suc (suc zero)))))) = V6
+fault_of (suc (suc (suc (suc (suc (suc (suc n))))))) = V7
 
 numbered : (w : Fault) → fault_of (number w) ≡ w
 numbered V1 = refl
@@ -56,12 +57,12 @@ module _ (Has : ℕ → Fault → Type 0) where
 one_first_refused : (fs gs : List Function) (j k s t : ℕ) (v w : Fault) → IsFirstRefused fs gs j s v → IsFirstRefused fs gs k t w → (j ≡ k) × (s ≡ t) × (v ≡ w)
 one_first_refused [] gs j k s t v w h i = absurd h
 one_first_refused (f ∷ fs) [] j k s t v w h i = absurd h
-one_first_refused (f ∷ fs) (g ∷ gs) zero zero s t v w h i = (refl, one_first_fault (HasFault f g) s t v w h i)
+one_first_refused (f ∷ fs) (g ∷ gs) zero zero s t v w h i = let same = one_first_fault (HasFault f g) s t v w h i in (refl, same.0, same.1)
 one_first_refused (f ∷ fs) (g ∷ gs) zero (suc k) s t v w h i = absurd (i.0 s v h.0)
 one_first_refused (f ∷ fs) (g ∷ gs) (suc j) zero s t v w h i = absurd (h.0 t w i.0)
 one_first_refused (f ∷ fs) (g ∷ gs) (suc j) (suc k) s t v w h i =
     let more = one_first_refused fs gs j k s t v w h.1 i.1 in
-    (ap suc more.0, more.1)
+    (ap suc more.0, more.1, more.2)
 
 none_refused : (fs gs : List Function) (k s : ℕ) (v : Fault) → AllZip Accepts fs gs → IsFirstRefused fs gs k s v → ⊥
 none_refused [] gs k s v all h = absurd h
@@ -72,15 +73,15 @@ none_refused (f ∷ fs) (g ∷ gs) (suc k) s v all h = none_refused fs gs k s v 
 -- there is one verdict
 
 one_verdict : (p q : Program) (one other : List ℕ) (s t : Status) → IsPairVerdict p q one s → IsPairVerdict p q other t → SameOutput one other s t
-one_verdict p q one other s t (other_shape no written is) (other_shape no' written' is') = (written ∙ sym written', is ∙ sym is')
-one_verdict p q one other s t (other_shape no written is) (refused_function k site why shape first written' is') = absurd (no shape)
-one_verdict p q one other s t (other_shape no written is) (accepted_pair all written' is') = absurd (no all.shape)
-one_verdict p q one other s t (refused_function k site why shape first written is) (other_shape no written' is') = absurd (no shape)
+one_verdict p q one other s t (other_shape apart written is) (other_shape apart' written' is') = (written ∙ sym written', is ∙ sym is')
+one_verdict p q one other s t (other_shape apart written is) (refused_function k site why shape first written' is') = absurd (apart shape)
+one_verdict p q one other s t (other_shape apart written is) (accepted_pair all written' is') = absurd (apart all.shape)
+one_verdict p q one other s t (refused_function k site why shape first written is) (other_shape apart written' is') = absurd (apart shape)
 one_verdict p q one other s t (refused_function k site why shape first written is) (refused_function k' site' why' shape' first' written' is') =
     let same = one_first_refused p.functions q.functions k k' site site' why why' first first' in
     (written ∙ (λ i. refused_function_line (same.0 i) (same.1 i) (same.2 i)) ∙ sym written', is ∙ sym is')
 one_verdict p q one other s t (refused_function k site why shape first written is) (accepted_pair all written' is') = absurd (none_refused p.functions q.functions k site why all.functions first)
-one_verdict p q one other s t (accepted_pair all written is) (other_shape no written' is') = absurd (no all.shape)
+one_verdict p q one other s t (accepted_pair all written is) (other_shape apart written' is') = absurd (apart all.shape)
 one_verdict p q one other s t (accepted_pair all written is) (refused_function k site why shape first written' is') = absurd (none_refused p.functions q.functions k site why all.functions first)
 one_verdict p q one other s t (accepted_pair all written is) (accepted_pair all' written' is') = (written ∙ sym written', is ∙ sym is')
 

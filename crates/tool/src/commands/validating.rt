@@ -86,7 +86,11 @@ fn first_refused(
 fn function_refused(alloc: Global, found: RefusedFunction) -> Result<Output, NoMemory>
     ensures { IfOk result (λ o. (o.bytes.items ≡ refused_function_line found.function found.site found.why) × (o.status ≡ status.No)) }
 {
-    let RefusedFunction { function, site, why } = found;
+    let RefusedFunction {
+        function,
+        site,
+        why,
+    } = found;
     let text = format!(in alloc; "refused {function} {site} {}\n", fault_word(why))?;
     written(alloc, text.as_str(), Status::No)
 }
@@ -100,7 +104,11 @@ fn judged(alloc: Global, source: &Program, target: &Program) -> Result<Output, N
     if !same_shape(source, target) {
         return written(alloc, "refused shape\n", Status::No);
     }
-    match first_refused(alloc, source.functions.as_slice(), target.functions.as_slice())? {
+    match first_refused(
+        alloc,
+        source.functions.as_slice(),
+        target.functions.as_slice(),
+    )? {
         None => written(alloc, "accepted\n", Status::Done),
         Some(found) => function_refused(alloc, found),
     }
