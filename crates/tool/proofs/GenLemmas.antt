@@ -8,16 +8,19 @@ use Rattle.pass_chain.specs.Chain.{IsOptAll}
 use Rattle.pass_chain.specs.Counts.{counts_of}
 use Rattle.pass_chain.specs.declared.chains.ProgramChain.{ProgramChain}
 use Rattle.pass_chain.specs.declared.counts.Counts.{Counts}
+use Rattle.simulation.specs.Conditions.{IsLifted}
 use Rattle.words.specs.declared.command.Drawing.TheVariants.{Seed}
 use Rattle.tool.specs.Gen.{IsChainSummary, IsSummary, summary_lines}
 use Rattle.tool.specs.Walk.{IsWalkOf}
 
-pub chain_summary : (number : ℕ) (c : ProgramChain) (journal : List Entry) (counts : Counts) (entries : ℕ) (ending : Ending) (out : List ℕ)
-    → IsWalkOf [] (Seed number) 1000 c.undead journal → counts ≡ counts_of c → entries ≡ length journal → ending ≡ ending_in journal (length c.undead.threads)
+pub chain_summary : (number : ℕ) (c : ProgramChain) (journal source : List Entry) (counts : Counts) (entries : ℕ) (ending : Ending) (out : List ℕ)
+    → IsWalkOf [] (Seed number) 1000 c.undead journal → IsLifted c.source c.undead journal source → counts ≡ counts_of c → entries ≡ length journal → ending ≡ ending_in journal (length c.undead.threads)
     → out ≡ summary_lines counts entries ending → IsChainSummary number c out
-chain_summary number c journal counts entries ending out walk same_counts same_entries same_ending written = record {
+chain_summary number c journal source counts entries ending out walk lifted same_counts same_entries same_ending written = record {
   journal = journal;
+  source = source;
   walk = walk;
+  lifted = lifted;
   written = written ∙ (λ i. summary_lines (same_counts i) (same_entries i) (same_ending i));
 }
 

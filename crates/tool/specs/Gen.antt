@@ -11,6 +11,7 @@ use Rattle.pass_chain.specs.Chain.{IsOptAll}
 use Rattle.pass_chain.specs.Counts.{counts_of}
 use Rattle.pass_chain.specs.declared.chains.ProgramChain.{ProgramChain}
 use Rattle.pass_chain.specs.declared.counts.Counts.{Counts}
+use Rattle.simulation.specs.Conditions.{IsLifted}
 use Rattle.words.specs.declared.command.Drawing.TheVariants.{Seed}
 use Rattle.words.specs.declared.command.Form.{Form}
 use Rattle.words.specs.declared.command.Form.TheVariants.{Text, Summary}
@@ -40,10 +41,13 @@ abbrev pub summary_lines : Counts → ℕ → Ending → List ℕ
 summary_lines counts entries ending = counts_lines counts ++ (number_line (codes "entries") entries ++ (codes "end " ++ (ending_word ending ++ codes "\n")))
 
 -- The lines tell of these five programs, and of a walk of the last of them: its threads take turns from the first one
--- on, its choices are drawn from the number, and each thread makes 1000 steps at most.
+-- on, its choices are drawn from the number, and each thread makes 1000 steps at most. Its journal is lifted to the first
+-- program.
 pub record IsChainSummary (number : ℕ) (chain : ProgramChain) (out : List ℕ) : Type 0 where
   pub journal : List Entry
+  pub source : List Entry
   pub walk : IsWalkOf [] (Seed number) 1000 chain.undead journal
+  pub lifted : IsLifted chain.source chain.undead journal source
   pub written : out ≡ summary_lines (counts_of chain) (length journal) (ending_in journal (length chain.undead.threads))
 
 -- The lines tell of the five programs that the passes make of this one.

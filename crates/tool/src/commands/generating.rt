@@ -3,11 +3,13 @@ ghost use Rattle.std.specs.Prelude.{◌≡◌, ◌≤◌, ◌++◌, IfOk, OnOk};
 ghost use Rattle.il_syntax.specs.WellFormed.{IsWellFormed};
 ghost use Rattle.il_syntax.specs.Text.{program_text};
 ghost use Rattle.pass_chain.specs.Laws.{AreWellFormed};
+ghost use Rattle.simulation.specs.Chain.{AreAcceptedTargets};
 ghost use Rattle.tool.specs.Gen.{IsChainSummary, IsGenOutput, IsSummary, counts_lines, number_line, summary_lines};
 
 use crate::answer::Output;
 use crate::commands::replaying::ending_word;
 use crate::commands::walking::drawn;
+use crate::memory::Memory;
 use crate::status::Status;
 use flow_summary::Summed;
 use gen_program::generate;
@@ -16,9 +18,10 @@ use il_syntax::Program;
 use itoa::Buffer;
 use parallel_driver::optimise;
 use pass_chain::{Counts, ProgramChain, count};
+use simulation::lift_chain;
 use std::alloc::Global;
 use std::thread::Threads;
-use values_undef::{Ending, NoMemory, Outcome};
+use values_undef::{Ending, NoMemory};
 use words::Form;
 
 /// How many steps each thread of the walk may make.
@@ -73,20 +76,21 @@ fn lines(
     Ok(bytes)
 }
 
-/// The summary of a program that the passes have optimised: its last program is walked.
-fn chain_summary(
-    alloc: Global,
-    number: u64,
-    chain: &ProgramChain,
-) -> Result<Vec<u8>, NoMemory>
-    requires { AreWellFormed chain.now }
+/// The summary of five programs that the passes have made: the last of them is walked, and its journal is lifted to the
+/// first.
+fn chain_summary(alloc: Global, number: u64, chain: &ProgramChain) -> Result<Vec<u8>, NoMemory>
+    requires well_formed { AreWellFormed chain.now }
+    requires accepted { AreAcceptedTargets chain.now }
     ensures { IfOk result (λ bytes. IsChainSummary number chain.now bytes.items) }
 {
-    let Outcome { journal, ending } = drawn(alloc, &chain.undead, &[], number, STEPS)?;
-    lines(alloc, count(chain), journal.entries.len() as u64, ending)
+    let walk = drawn(alloc, &chain.undead, &[], number, STEPS)?;
+    lift_chain::<Memory>(alloc, chain, &walk.journal)?;
+    let entries = walk.journal.entries.len() as u64;
+    lines(alloc, count(chain), entries, walk.ending)
 }
 
 /// The summary of a program that was made from this number.
+#[tactic(auto, using(crate::proofs::HeadlineFacts::are_accepted))]
 fn summary<R: Threads + Sync>(
     alloc: Global,
     rt: &R,
