@@ -240,8 +240,8 @@ message_small m y message l small s z lt =
       s y l,
     ))
     (λ (e : z ≡ y → ⊥).
-        let there : z < length m.atomic = omega (arith, lt, length-set m.atomic y (inserted message (messages m y))) in
-        omega (arith, ap last_to (get_or-set_other m.atomic y z (inserted message (messages m y)) [] e), s z there))
+    let there : z < length m.atomic = omega (arith, lt, length-set m.atomic y (inserted message (messages m y))) in
+    omega (arith, ap last_to (get_or-set_other m.atomic y z (inserted message (messages m y)) [] e), s z there))
     (cases_eq z y)
 
 access_small : (p : Program) (m : Memory) (v : ThreadView) (i : ℕ) (a : Access) (c : Choice) (n : ℕ) → IsSmall p m n → IsProperAccess p a → AdmitsChoice m v a c
