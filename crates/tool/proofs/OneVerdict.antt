@@ -1,4 +1,4 @@
--- `validate` has one output for an input.
+-- `validate` has one output for an input, and accepts the programs of a chain.
 use Rattle.std.proofs.Common.{◌≡◌, ◌∙◌, ◌<◌, ◌≤◌, ◌⊎◌, ℕ, zero, suc, List, [], ◌∷◌, inl, inr, refl, sym, ap, subst, arith}
 use Rattle.std.specs.List.{AllZip}
 use Rattle.il_syntax.specs.declared.program.Function.{Function}
@@ -6,12 +6,17 @@ use Rattle.il_syntax.specs.declared.program.Program.{Program}
 use Rattle.validator.specs.declared.fault.Fault.{Fault}
 use Rattle.validator.specs.declared.fault.Fault.TheVariants.{V1, V2, V3, V4, V5, V6, V7}
 use Rattle.validator.specs.Faults.{Accepts, IsFirst, HasFault, number}
+use Rattle.pass_chain.specs.declared.chains.ProgramChain.{ProgramChain}
+use Rattle.parallel_driver.specs.Neighbours.{IsAcceptedNeighbour, AreNeighbours}
+use Rattle.parallel_driver.proofs.NeighbourLaws.{chains_are_accepted}
 use Rattle.pair_text.specs.Refusals.{PairRefusal, pair_rule_word}
+use Rattle.pair_text.specs.Reading.{ReadsPair}
 use Rattle.pair_text.proofs.Callers.{one_pair, one_pair_refusal, pair_unrefused}
 use Rattle.tool.specs.declared.status.Status.{Status}
+use Rattle.tool.specs.declared.status.Status.TheVariants as status
 use Rattle.tool.specs.Refusals.{refusal_line}
-use Rattle.tool.specs.Validate.{refused_function_line, IsFirstRefused, IsPairVerdict, other_shape, refused_function, accepted_pair, IsValidateRefusal, IsValidation}
-use Rattle.tool.specs.Laws.{ValidatesHaveOneOutput}
+use Rattle.tool.specs.Validate.{accepted_pair_line, refused_function_line, IsFirstRefused, IsPairVerdict, other_shape, refused_function, accepted_pair, IsValidateRefusal, IsValidation}
+use Rattle.tool.specs.Laws.{ValidatesHaveOneOutput, ChainsValidate, AreNextInChain, by_store_forwarding, by_load_introduction, by_load_forwarding, by_store_removal}
 
 abbrev SameOutput : (one other : List ℕ) → (s t : Status) → Type 0
 SameOutput one other s t = (one ≡ other) × (s ≡ t)
@@ -100,3 +105,21 @@ validates_have_one_output bytes one other s t (inl x) (inl y) = validated_once b
 validates_have_one_output bytes one other s t (inl x) (inr y) = absurd (pair_unrefused bytes x.source x.target y.refusal x.reads y.first)
 validates_have_one_output bytes one other s t (inr x) (inl y) = absurd (pair_unrefused bytes y.source y.target x.refusal y.reads x.first)
 validates_have_one_output bytes one other s t (inr x) (inr y) = validate_refused_once bytes one other s t x y
+
+-- programs of a chain
+
+same_neighbour : (p q p' q' : Program) → p ≡ p' → q ≡ q' → IsAcceptedNeighbour p' q' → IsAcceptedNeighbour p q
+same_neighbour p q p' q' e f h = subst (λ (r : Program). IsAcceptedNeighbour p r) (sym f) (subst (λ (r : Program). IsAcceptedNeighbour r q') (sym e) h)
+
+next_accepted : (c : ProgramChain) (p q : Program) → AreNeighbours c → AreNextInChain c p q → IsAcceptedNeighbour p q
+next_accepted c p q h (by_store_forwarding e f) = same_neighbour p q c.source c.stored e f h.stored
+next_accepted c p q h (by_load_introduction e f) = same_neighbour p q c.stored c.introduced e f h.introduced
+next_accepted c p q h (by_load_forwarding e f) = same_neighbour p q c.introduced c.loaded e f h.loaded
+next_accepted c p q h (by_store_removal e f) = same_neighbour p q c.loaded c.undead e f h.undead
+
+accepted_once : (bytes out : List ℕ) (s : Status) (p q : Program) → IsAcceptedNeighbour p q → ReadsPair bytes p q → IsValidation bytes out s → SameOutput out accepted_pair_line s status.Done
+accepted_once bytes out s p q all reads x = validated_once bytes out accepted_pair_line s status.Done x (record { source = p; target = q; reads = reads; verdict = accepted_pair all refl refl })
+
+pub chains_validate : ChainsValidate
+chains_validate p source target c bytes out s formed made next reads (inl x) = accepted_once bytes out s source target (next_accepted c source target (chains_are_accepted p c formed made) next) reads x
+chains_validate p source target c bytes out s formed made next reads (inr x) = absurd (pair_unrefused bytes source target x.refusal reads x.first)
