@@ -92,13 +92,13 @@ drawn_chosen p entries seed run is_drawn =
     let many : length (initial_state p).locals ≡ threads = length-map p.threads (start_of p) in
     let enough : length (initial_state p).locals ≤ length (generators seed threads) = omega (arith, many, length-map-range_with_len (generator seed) 0 threads) in
     chosen_from p (initial_state p) (generators seed threads) entries enough run (λ before e after parts atomic.
-        let t = state_after p (initial_state p) before in
-        let cut = runs_cut p (initial_state p) before (e ∷ after) (subst (IsRunFrom p (initial_state p)) parts run) in
-        let there = entry_there p t e cut.1.0 in
-        let below : e.thread < length p.threads = omega (arith, there, many, state_threads p (initial_state p) before) in
-        let own : generator_at (generators seed (length p.threads)) e.thread ≡ generator seed e.thread =
-        get_or-map-range_with_len (generator seed) 0 (length p.threads) e.thread e.thread absent_generator below (omega arith) in
-        subst (λ (g : Lcg). TakesCandidate p t e (word g (atomic_entries_of e.thread before) % length (candidates_of p t e))) (sym own) (is_drawn before e after parts atomic))
+    let t = state_after p (initial_state p) before in
+    let cut = runs_cut p (initial_state p) before (e ∷ after) (subst (IsRunFrom p (initial_state p)) parts run) in
+    let there = entry_there p t e cut.1.0 in
+    let below : e.thread < length p.threads = omega (arith, there, many, state_threads p (initial_state p) before) in
+    let own : generator_at (generators seed (length p.threads)) e.thread ≡ generator seed e.thread =
+    get_or-map-range_with_len (generator seed) 0 (length p.threads) e.thread e.thread absent_generator below (omega arith) in
+    subst (λ (g : Lcg). TakesCandidate p t e (word g (atomic_entries_of e.thread before) % length (candidates_of p t e))) (sym own) (is_drawn before e after parts atomic))
 
 pub walked_once : (order : List ℕ) (seed steps : ℕ) (p : Program) (one other : List Entry) → IsWalkOf order (Seed seed) steps p one → IsWalkOf order (Seed seed) steps p other → one ≡ other
 walked_once order seed steps p one other x y =

@@ -1,5 +1,5 @@
 //! `gen`: a program that is made from a number, or what the passes did to it and how a run of it ends.
-ghost use Rattle.std.specs.Prelude.{◌≡◌, ◌≤◌, ◌++◌, IfOk, OnOk};
+ghost use Rattle.std.specs.Prelude.{◌≡◌, ◌≤◌, ◌++◌, length, IfOk, OnOk};
 ghost use Rattle.il_syntax.specs.WellFormed.{IsWellFormed};
 ghost use Rattle.il_syntax.specs.Text.{program_text};
 ghost use Rattle.pass_chain.specs.Laws.{AreWellFormed};
@@ -21,7 +21,7 @@ use pass_chain::{Counts, ProgramChain, count};
 use simulation::lift_chain;
 use std::alloc::Global;
 use std::thread::Threads;
-use values_undef::{Ending, NoMemory};
+use values_undef::{Ending, Journal, NoMemory};
 use words::Form;
 
 /// How many steps each thread of the walk may make.
@@ -59,12 +59,7 @@ fn push_counts(bytes: &mut Vec<u8>, counts: Counts) -> Result<(), NoMemory>
 }
 
 /// The seven lines of a summary.
-fn lines(
-    alloc: Global,
-    counts: Counts,
-    entries: u64,
-    ending: Ending,
-) -> Result<Vec<u8>, NoMemory>
+fn lines(alloc: Global, counts: Counts, entries: u64, ending: Ending) -> Result<Vec<u8>, NoMemory>
     ensures { IfOk result (λ bytes. bytes.items ≡ summary_lines counts entries ending) }
 {
     let mut bytes = Vec::new(alloc);
@@ -76,6 +71,13 @@ fn lines(
     Ok(bytes)
 }
 
+/// How many entries a journal has.
+fn entries_of(journal: &Journal) -> u64
+    ensures { result ≡ length journal.now }
+{
+    journal.entries.len() as u64
+}
+
 /// The summary of five programs that the passes have made: the last of them is walked, and its journal is lifted to the
 /// first.
 fn chain_summary(alloc: Global, number: u64, chain: &ProgramChain) -> Result<Vec<u8>, NoMemory>
@@ -85,7 +87,7 @@ fn chain_summary(alloc: Global, number: u64, chain: &ProgramChain) -> Result<Vec
 {
     let walk = drawn(alloc, &chain.undead, &[], number, STEPS)?;
     lift_chain::<Memory>(alloc, chain, &walk.journal)?;
-    let entries = walk.journal.entries.len() as u64;
+    let entries = entries_of(&walk.journal);
     lines(alloc, count(chain), entries, walk.ending)
 }
 
