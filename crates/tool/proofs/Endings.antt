@@ -1,20 +1,17 @@
 -- What the last entries of a walk's threads tell of its status.
-use Rattle.std.proofs.Common.{◌≡◌, ◌<◌, ◌+◌, ◌⊎◌, inl, inr, ℕ, zero, suc, Bool, true, false, ◌&&◌, ◌||◌, ◌==◌, List, [], ◌∷◌, length, refl, sym, ap, ap₂, subst, ◌∙◌, if◌then◌else◌, arith}
-use Rattle.std.specs.List.{list_all, list_any, range_with_len}
+use Rattle.std.proofs.Common.{◌≡◌, ◌<◌, ◌+◌, ◌⊎◌, inl, inr, ℕ, zero, suc, Bool, true, false, ◌&&◌, ◌||◌, ◌==◌, List, [], ◌∷◌, length, refl, sym, ap, subst, ◌∙◌, if◌then◌else◌, arith}
+use Rattle.std.specs.List.{list_all, range_with_len}
 use Rattle.std.proofs.lemmas.Bool.{and_parts}
 use Rattle.values_undef.specs.Access.{ends_thread, is_finish, is_spend}
 use Rattle.values_undef.specs.Journal.{last_fails, has_finished, all_finished, ending_in}
 use Rattle.values_undef.specs.declared.access.Event.{Event}
 use Rattle.values_undef.specs.declared.access.Event.TheVariants.{NaRead, NaWrite, Read, Write, Update, Miss, Fence, Print, Fail, FailCompare, Finish, Spend}
 use Rattle.values_undef.specs.declared.journal.Entry.{Entry}
-use Rattle.values_undef.specs.declared.journal.Ending.{Ending}
 use Rattle.values_undef.specs.declared.journal.Ending.TheVariants as ending
 use Rattle.il_syntax.specs.declared.program.Program.{Program}
 use Rattle.walker.specs.Turns.{has_ended}
 use Rattle.walker.specs.Complete.{IsComplete, has_spent}
-use Rattle.tool.specs.declared.status.Status.{Status}
 use Rattle.tool.specs.Statuses.{status_of}
-use Rattle.tool.specs.Headline.{IsReport}
 use Rattle.tool.specs.Walk.{IsWalkOf}
 use Rattle.tool.specs.Laws.{TellsEnd, TellEnds, StatusesTellTheEnd}
 use Rattle.tool.proofs.HeadlineFacts.{same_threads}

@@ -1,5 +1,5 @@
 -- The verdicts on pairs of programs.
-use Rattle.std.proofs.Common.{◌≡◌, ◌∙◌, ◌≤◌, ◌<◌, ℕ, List, length, get_or, Result, Ok, Err, sym, ap, subst}
+use Rattle.std.proofs.Common.{◌≡◌, ◌∙◌, ◌≤◌, ◌<◌, ℕ, List, length, get_or, Result, Ok, Err, inl, sym, ap, subst}
 use Rattle.std.specs.Prelude.{All, IfOk}
 use Rattle.std.proofs.lemmas.Slice.Zip.{AllZip-long}
 use Rattle.il_syntax.specs.declared.program.Function.{Function}
@@ -9,9 +9,10 @@ use Rattle.il_syntax.specs.WellFormed.{IsWellFormed, declared_by}
 use Rattle.il_syntax.proofs.Callers.{functions_well_formed, function_small}
 use Rattle.validator.specs.declared.fault.Fault.{Fault}
 use Rattle.validator.specs.Shape.{SameSignature, SameShape}
+use Rattle.pair_text.specs.Reading.{ReadsPair}
 use Rattle.tool.specs.declared.status.Status.{Status}
 use Rattle.tool.specs.declared.status.Status.TheVariants as status
-use Rattle.tool.specs.Validate.{refused_function_line, IsFirstRefused, IsPairVerdict, refused_function}
+use Rattle.tool.specs.Validate.{refused_function_line, IsFirstRefused, IsPairVerdict, refused_function, IsValidateOutput}
 
 -- lists that are those of two programs
 module _ (p q : Program) (fs gs : List Function) (sources : fs ≡ p.functions) (targets : gs ≡ q.functions) where
@@ -33,3 +34,6 @@ if_written (Err e) P Q turn h = tt
 pub function_verdict : (p q : Program) (k site : ℕ) (why : Fault) → SameShape p q → IsFirstRefused p.functions q.functions k site why
     → (out : List ℕ) (s : Status) → (out ≡ refused_function_line k site why) × (s ≡ status.No) → IsPairVerdict p q out s
 function_verdict p q k site why shape first out s h = refused_function k site why shape first h.0 h.1
+
+pub pair_judged : (bytes : List ℕ) (p q : Program) → ReadsPair bytes p q → (out : List ℕ) (s : Status) → IsPairVerdict p q out s → IsValidateOutput bytes out s
+pair_judged bytes p q reads out s verdict = inl (record { source = p; target = q; reads = reads; verdict = verdict })

@@ -37,6 +37,7 @@ fn journal<R: Threads + Wait + Sync, G: Gate + Sync>(
 }
 
 /// The output of `run` for this input. The gate is called before each access of a thread.
+#[tactic(auto, using(crate::proofs::HeadlineFacts::are_accepted))]
 pub(crate) fn output<R: Threads + Wait + Sync, G: Gate + Sync>(
     alloc: Global,
     rt: &R,
