@@ -41,7 +41,10 @@ pub enum Command {
     },
     /// Run a program on threads of its own: what its choices are drawn from, and how many steps each
     /// of its threads may make.
-    Run { seed: u64, steps: u64 },
+    Run {
+        seed: u64,
+        steps: u64,
+    },
     /// Judge the journal of a run.
     Replay,
     /// Make a program of so many functions from a number.
