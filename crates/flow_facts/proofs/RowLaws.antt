@@ -1,5 +1,5 @@
 -- Rows as functions from pairs to levels: entries put to the end, and each entry's level changed.
-use Rattle.std.proofs.Common.{◌≡◌, ◌≤◌, ◌<◌, ℕ, suc, ◌+◌, Bool, true, false, cond, leb, ◌&&◌, ◌==◌, List, [], ◌∷◌, ◌++◌, length, get_or, drop, drop-cons, add-one, refl, sym, ap, ◌∙◌, ◌⊎◌, inl, inr, ⊎_elim, arith}
+use Rattle.std.proofs.Common.{◌≡◌, ◌≤◌, ◌<◌, ℕ, suc, ◌+◌, Bool, true, false, cond, leb, ◌&&◌, ◌==◌, List, [], ◌∷◌, ◌++◌, length, get_or, drop, drop-cons, add-one, refl, sym, ap, subst, ◌∙◌, ◌⊎◌, inl, inr, ⊎_elim, arith}
 use Rattle.std.proofs.lemmas.Bool.{false≢true, eqb-true, eq-eqb, leb-true, leb-false}
 use Rattle.std.proofs.lemmas.Bool.Decides.{Decides-int_eq}
 use Rattle.il_syntax.specs.declared.statement.Atom.{Atom}
@@ -86,6 +86,17 @@ level_in-append (k ∷ xs) ys x a = ap (higher (level_of k x a)) (level_in-appen
 
 pub level_in-push : (xs ys : List Known) (k : Known) → ys ≡ xs ++ k ∷ [] → (x : ℕ) (a : Atom) → level_in ys x a ≡ higher (level_in xs x a) (level_of k x a)
 level_in-push xs ys k e x a = ap (λ (zs : List Known). level_in zs x a) e ∙ level_in-append xs (k ∷ []) x a ∙ ap (higher (level_in xs x a)) (higher-nothing (level_of k x a))
+
+-- an entry that says no more of its pair than the row
+pub level_in_said : (xs : List Known) (k : Known) → higher (level_in xs k.x k.a) k.level ≡ level_in xs k.x k.a → (x : ℕ) (a : Atom) → level_in xs x a ≡ higher (level_in xs x a) (level_of k x a)
+level_in_said xs k e x a = go (is_at x a k) refl
+  where
+    go : (t : Bool) → is_at x a k ≡ t → level_in xs x a ≡ higher (level_in xs x a) (cond t k.level Nothing)
+    go true is =
+        let p = both (k.x == x) (atoms_equal a k.a) is in
+        sym (subst (λ (b : Atom). higher (level_in xs x b) k.level ≡ level_in xs x b) (sym (atoms_equal-true a k.a p.1))
+        (subst (λ (y : ℕ). higher (level_in xs y k.a) k.level ≡ level_in xs y k.a) (eqb-true k.x x p.0) e))
+    go false is = sym (higher-nothing (level_in xs x a))
 
 -- an entry at nothing says nothing
 pub level_of-nothing : (k : Known) → k.level ≡ Nothing → (x : ℕ) (a : Atom) → level_of k x a ≡ Nothing

@@ -1,7 +1,8 @@
 //! Rows: the pairs above nothing at one place of a walk.
 //!
 //! Along a path at most one pair of a location was made by a store, and at most one of a register by a
-//! load, so a row is short: at most as long as there are locations and registers. No clause says so.
+//! load, and a statement puts no pair to a row that says as much of it already. So a row is short: at most
+//! as long as there are locations and registers. No clause says so.
 ghost use Rattle.std.specs.Prelude.{◌≡◌, ℕ, IfOk, OnOk};
 ghost use Rattle.il_syntax.specs.Statements.{head_of};
 ghost use Rattle.il_syntax.specs.declared.statement.Atom.{Atom};
@@ -89,6 +90,18 @@ pub fn push_known(row: &mut Row, known: Known) -> Result<(), NoMemory>
     Ok(())
 }
 
+/// Puts an entry to the end, where the row doesn't say as much already.
+#[tactic(auto, using(crate::proofs::RowLaws::level_in_said))]
+fn push_new(row: &mut Row, known: Known) -> Result<(), NoMemory>
+    ensures { OnOk result ((x : ℕ) (a : Atom) → level_in row.new x a ≡ higher (level_in row.old x a) (level_of known x a)) }
+{
+    let level = level_in(row.as_slice(), known.x, known.a);
+    if level.higher(known.level) == level {
+        return Ok(());
+    }
+    push_known(row, known)
+}
+
 /// Puts the pair that a statement makes of nothing to the end, if there is one.
 fn push_given(row: &mut Row, kind: Kind, statement: &Stmt) -> Result<(), NoMemory>
     ensures { OnOk result ((x : ℕ) (a : Atom) → level_in row.new x a ≡ higher (level_in row.old x a) (level_change kind x a (head_of statement.now) Nothing)) }
@@ -100,7 +113,7 @@ fn push_given(row: &mut Row, kind: Kind, statement: &Stmt) -> Result<(), NoMemor
             } else {
                 Level::Nothing
             };
-            push_known(
+            push_new(
                 row,
                 Known {
                     x: *x,
@@ -115,7 +128,7 @@ fn push_given(row: &mut Row, kind: Kind, statement: &Stmt) -> Result<(), NoMemor
             } else {
                 Level::Nothing
             };
-            push_known(
+            push_new(
                 row,
                 Known {
                     x: *x,
