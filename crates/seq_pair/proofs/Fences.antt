@@ -1,7 +1,7 @@
 -- A fence that both pass: what is seen of both, and how they stand after it.
-use Rattle.std.proofs.Common.{◌≡◌, ℕ, List, Option, Some, None, refl, sym, ap, ◌∙◌, subst}
+use Rattle.std.proofs.Common.{◌≡◌, ℕ, false, List, Option, Some, None, refl, sym, ap, ◌∙◌, subst}
 use Rattle.std.proofs.lemmas.Bool.{false≢true}
-use Rattle.il_syntax.specs.declared.statement.Stmt.TheOpen.{Skip, Copy, Load, Store, AtomicLoad, AtomicStore, Update, Fence, Print, Call}
+use Rattle.il_syntax.specs.declared.statement.Stmt.TheOpen.{Skip, Copy, Load, Store, AtomicLoad, AtomicStore, Update, Print, Call}
 use Rattle.il_syntax.specs.declared.program.Program.{Program}
 use Rattle.il_syntax.specs.Statements.{Head}
 use Rattle.il_paths.specs.Code.{Visit}
@@ -11,7 +11,7 @@ use Rattle.paired_threads.proofs.GoOn.{pairs_go_on}
 use Rattle.seq_semantics.specs.declared.seen.Seen.{Seen}
 use Rattle.seq_semantics.specs.declared.seen.Seen.TheVariants as seen
 use Rattle.seq_semantics.specs.declared.seen.Wants.TheVariants as want
-use Rattle.seq_semantics.specs.Seq.{Seq, head_in, wanted_at, wanted_by, wants_of, pass_seen_at, after_pass_at, pass_seen, after_pass}
+use Rattle.seq_semantics.specs.Seq.{Seq, head_in, wanted_by, wants_of, pass_seen_at, after_pass_at, pass_seen, after_pass}
 use Rattle.seq_pair.specs.Pair.{wants_fence}
 use Rattle.seq_pair.specs.Related.{Related}
 use Rattle.seq_pair.proofs.Steps.{Outcome, wants_here, fence_on}

@@ -4,4 +4,4 @@ pub mod Values
 pub mod Fences
 pub mod Events
 pub mod Told
-pub mod Rows
+pub mod Examples

@@ -17,7 +17,7 @@ use Rattle.il_syntax.specs.declared.statement.Stmt.TheOpen.{Skip, Copy, Compute,
 use Rattle.il_syntax.specs.declared.program.Program.{Program}
 use Rattle.il_syntax.specs.Statements.{Head}
 use Rattle.il_paths.specs.Code.{Visit, first_head}
-use Rattle.il_paths.specs.Heads.{is_release, is_release_order, gives}
+use Rattle.il_paths.specs.Heads.{is_release, is_release_order, gives, stored_location}
 use Rattle.thread_core.specs.declared.next.Next.TheVariants as next
 use Rattle.thread_core.specs.Frames.{Frame, evaluated, gave, passed, assigned, worked, next_at, next_print}
 use Rattle.flow_facts.specs.declared.level.Level.{Level}
@@ -150,7 +150,7 @@ module _ {p q : Program} {f : ℕ} (fn : PairedFunction p q f) (path : List Visi
       stored = λ x a e. let h : is_release (Store x a) ≡ true = sym (ap is_release e) ∙ rels refl in absurd (false≢true h);
       loaded = λ r x e. let h : is_release (Load r x) ≡ true = sym (ap is_release e) ∙ rels refl in absurd (false≢true h);
       read_stays = λ x n c w b below. subst (IsBelow b) (sym (lowered_loads s.places x)) below;
-      alone_stays = λ x n c w own. absurd (w (rels refl));
+      alone_stays = λ x n c w own. absurd (false≢true (sym w ∙ rels refl));
     });
     target_runs = rel.target_runs;
     source_runs = rel.source_runs;
@@ -196,8 +196,8 @@ module _ {p q : Program} {f : ℕ} (fn : PairedFunction p q f) (path : List Visi
           subst (λ z. IsBelow (evaluated t.frame.registers d) (loaded_from (place_in (set s.places x (owned c)) z)) × ((place_in (set s.places x (owned c)) z).permission ≡ Owned)) same_x
           (subst (λ k. IsBelow (evaluated t.frame.registers k) (loaded_from (place_in (set s.places x (owned c)) x))) same_a (below_at _ c _ _ refl source_reads below), ap (λ (z : Place). z.permission) (set_here s.places x (owned c) here));
       loaded = λ r y e. let g : Store x a ≡ Load r y = sym stored ∙ e in cc;
-      read_stays = λ y n k w d held. subst (IsBelow d) (ap loaded_from (sym (set_there s.places x y (owned c) (λ e. n a (stored ∙ ap (λ z. Store z a) (sym e)))))) held;
-      alone_stays = λ y n k w own. ap (λ (z : Place). z.permission) (set_there s.places x y (owned c) (λ e. n a (stored ∙ ap (λ z. Store z a) (sym e)))) ∙ own;
+      read_stays = λ y n k w d held. subst (IsBelow d) (ap loaded_from (sym (set_there s.places x y (owned c) (λ e. n (ap stored_location stored ∙ ap Some (sym e)))))) held;
+      alone_stays = λ y n k w own. ap (λ (z : Place). z.permission) (set_there s.places x y (owned c) (λ e. n (ap stored_location stored ∙ ap Some (sym e)))) ∙ own;
     }
       where
         location_of : Head → ℕ
