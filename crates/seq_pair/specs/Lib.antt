@@ -1,0 +1,5 @@
+pub mod Labels
+pub mod Pair
+pub mod Answers
+pub mod Laws
+pub mod Related
