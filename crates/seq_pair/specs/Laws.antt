@@ -18,7 +18,7 @@ use Rattle.seq_semantics.specs.Seq.{Seq, place_in, head_in, wants_of}
 use Rattle.seq_pair.specs.declared.event.EnvEvent.{EnvEvent}
 use Rattle.seq_pair.specs.declared.trace.PairEnd.TheVariants.{SourceFailed}
 use Rattle.seq_pair.specs.Labels.{LabelMatches}
-use Rattle.seq_pair.specs.Pair.{Pair, Inside, Over, at_new_load, at_call, register_count, Came, pair_run}
+use Rattle.seq_pair.specs.Pair.{Pair, Inside, Over, at_new_load, at_call, hears as heard_at, register_count, Came, pair_run}
 
 -- both programs are well-formed and of the same shape, and the target's function of this number is an accepted
 -- target of the source's
@@ -65,6 +65,7 @@ pub record IsInStep (old : ℕ) (s : Pair) : Type 0 where
   pub values : s.stage ≡ Inside → wants_of s.target ≡ want.Value → wants_of s.source ≡ want.Value
   pub fences : s.stage ≡ Inside → wants_of s.target ≡ want.Fence → wants_of s.source ≡ want.Fence
   pub calls : s.stage ≡ Inside → at_call (head_in s.target) ≡ true → at_call (head_in s.source) ≡ true
+  pub hears : s.stage ≡ Inside → heard_at (head_in s.target) ≡ true → heard_at (head_in s.source) ≡ true
 
 abbrev pub PairsStayInStep : Type 0
 PairsStayInStep = (p q : Program) (f : ℕ) (events : List EnvEvent) (s : Pair) → IsAcceptedPair p q f → pair_run p q f events ≡ Came s → IsInStep (register_count p f) s

@@ -17,18 +17,14 @@ use Rattle.seq_semantics.specs.declared.seen.Seen.TheVariants as seen
 use Rattle.seq_semantics.specs.declared.seen.Wants.{Wants}
 use Rattle.seq_semantics.specs.declared.seen.Wants.TheVariants as want
 use Rattle.seq_semantics.specs.Seq.{Seq, place_in, with_place, with_frame, is_bare, lowered_if, head_in, wants_of, step_seen, after_step, value_seen, after_value, pass_seen, after_pass, seq_begun}
+pub use Rattle.seq_pair.specs.declared.stage.Stage.{Stage}
+pub use Rattle.seq_pair.specs.declared.stage.Stage.TheVariants.{AtEntry, Inside, Over}
 use Rattle.seq_pair.specs.declared.event.EnvEvent.{EnvEvent}
 use Rattle.seq_pair.specs.declared.event.EnvEvent.TheVariants.{Enter, Run, Value, Take, Hide, Gain, See, Pass}
 use Rattle.seq_pair.specs.declared.trace.PairLabel.{PairLabel}
 use Rattle.seq_pair.specs.declared.trace.PairEnd.{PairEnd}
 use Rattle.seq_pair.specs.declared.trace.PairEnd.TheVariants.{Same, SourceFailed, Cut}
 use Rattle.seq_pair.specs.Labels.{is_failed, labelled}
-
--- where a pair is: before `enter`, with the values that were given so far; in the function; at its end
-pub data Stage : Type 0 where
-  AtEntry : (targets sources : List Val) → Stage
-  Inside : Stage
-  Over : (end : PairEnd) → Stage
 
 pub record Pair : Type 0 where
   pub stage : Stage
@@ -96,9 +92,13 @@ hears (Some head) = is_call head || is_acquire head
 
 -- ---- steps
 
+-- both have come to a call, and the source has not failed
+abbrev pub arrives : Pair → Bool
+arrives s = is_inside s.stage && at_call (head_in s.target)
+
 -- the pair has come to where it is: at a call each owned location becomes shared, in both
 abbrev pub lowered_at_call : Pair → Pair
-lowered_at_call s = let call = at_call (head_in s.target) in record s { target = lowered_if call s.target; source = lowered_if call s.source }
+lowered_at_call s = record s { target = lowered_if (arrives s) s.target; source = lowered_if (arrives s) s.source }
 
 -- the stage after a step in which the target was seen to do this, where the source has not failed
 abbrev pub stage_of : Seen → Stage

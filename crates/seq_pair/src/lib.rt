@@ -10,6 +10,7 @@
 
 mod event;
 pub mod laws;
+mod stage;
 mod trace;
 
 pub use event::EnvEvent;
