@@ -12,6 +12,7 @@ use Rattle.values_undef.proofs.Callers.{below_refl}
 use Rattle.il_syntax.specs.declared.program.Function.{Function}
 use Rattle.il_syntax.specs.declared.program.Location.{Location}
 use Rattle.il_syntax.specs.declared.program.Program.{Program}
+use Rattle.il_syntax.specs.declared.statement.Atom.{Atom}
 use Rattle.il_syntax.specs.declared.statement.Stmt.TheOpen.{Skip, Copy, Compute, Load, Store, AtomicLoad, AtomicStore, Update, Fence, Print, If, While, Call}
 use Rattle.il_syntax.specs.Statements.{Head}
 use Rattle.il_paths.specs.Code.{Visit}
@@ -32,7 +33,7 @@ use Rattle.seq_semantics.specs.declared.seen.Wants.TheVariants as want
 use Rattle.seq_semantics.specs.Seq.{Seq, place_in, head_in, wants_of, seq_begun}
 use Rattle.seq_pair.specs.declared.event.EnvEvent.{EnvEvent}
 use Rattle.seq_pair.specs.declared.trace.PairEnd.TheVariants.{Same, SourceFailed, Cut}
-use Rattle.seq_pair.specs.Pair.{Pair, Stage, AtEntry, Inside, Over, at_new_load, at_call, pair_begun, Came, pair_run}
+use Rattle.seq_pair.specs.Pair.{Pair, Stage, AtEntry, Inside, Over, at_new_load, at_call, hears as heard_at, pair_begun, Came, pair_run}
 use Rattle.seq_pair.specs.Related.{PlacePaired, Related, Stands, PairRelated}
 use Rattle.seq_pair.specs.Laws.{IsAcceptedPair, PlaceBelow, MemoryBelow, hands_over, StaysRelated, PairsStayRelated, IsInStep, PairsStayInStep}
 use Rattle.seq_pair.proofs.Events.{counted, run_keeps}
@@ -119,12 +120,14 @@ module _ {p q : Program} {f : ℕ} (fn : PairedFunction p q f) (path : List Visi
   fence_by (inl h) w = let g : want.Step ≡ want.Fence = sym h.1 ∙ w in cc
   fence_by (inr e) w = e ∙ w
 
-  call_by : PairedNext fn path t.frame s.frame → at_call (head_in t) ≡ true → at_call (head_in s) ≡ true
-  call_by (both_end et es settled) e = absurd (false≢true (sym (ap at_call et) ∙ e))
-  call_by (inserts v r x et ev new few settled stays gives_target) e = absurd (false≢true (sym (ap at_call et) ∙ e))
-  call_by (turns v r x a et es ev l known stays gives_paired) e = absurd (false≢true (sym (ap at_call et) ∙ e))
-  call_by (removes v x a et es ev below pends others frames) e = absurd (false≢true (sym (ap at_call et) ∙ e))
-  call_by (same v h et es ev proper m) e = ap at_call es ∙ sym (ap at_call et) ∙ e
+  -- what is true of the target's next statement, but of no end, load, copy or `skip`, is true of the source's
+  head_by : (test : Option Head → Bool) → test None ≡ false → ((r x : ℕ) → test (Some (Load r x)) ≡ false) → ((r : ℕ) (a : Atom) → test (Some (Copy r a)) ≡ false) → test (Some Skip) ≡ false
+      → PairedNext fn path t.frame s.frame → test (head_in t) ≡ true → test (head_in s) ≡ true
+  head_by test none load copy skip (both_end et es settled) e = absurd (false≢true (sym none ∙ sym (ap test et) ∙ e))
+  head_by test none load copy skip (inserts v r x et ev new few settled stays gives_target) e = absurd (false≢true (sym (load r x) ∙ sym (ap test et) ∙ e))
+  head_by test none load copy skip (turns v r x a et es ev l known stays gives_paired) e = absurd (false≢true (sym (copy r a) ∙ sym (ap test et) ∙ e))
+  head_by test none load copy skip (removes v x a et es ev below pends others frames) e = absurd (false≢true (sym skip ∙ sym (ap test et) ∙ e))
+  head_by test none load copy skip (same v h et es ev proper m) e = ap test es ∙ sym (ap test et) ∙ e
 
   pub goes : PairedNext fn path t.frame s.frame
   goes = pairs_go_on p q f fn path t.frame s.frame rel.frames
@@ -179,7 +182,8 @@ module _ {p q : Program} {f : ℕ} (fn : PairedFunction p q f) where
     steps = λ i w n. let r = inside i in step_by fn r.0 s.target s.source r.1 (alike i) w n;
     values = λ i w. let r = inside i in value_by fn r.0 s.target s.source r.1 (alike i) w;
     fences = λ i w. let r = inside i in fence_by fn r.0 s.target s.source r.1 (alike i) w;
-    calls = λ i e. let r = inside i in call_by fn r.0 s.target s.source r.1 (goes fn r.0 s.target s.source r.1) e;
+    calls = λ i e. let r = inside i in head_by fn r.0 s.target s.source r.1 at_call refl (λ a x. refl) (λ a b. refl) refl (goes fn r.0 s.target s.source r.1) e;
+    hears = λ i e. let r = inside i in head_by fn r.0 s.target s.source r.1 heard_at refl (λ a x. refl) (λ a b. refl) refl (goes fn r.0 s.target s.source r.1) e;
   }
     where
       inside : s.stage ≡ Inside → Stands fn Inside s.target s.source
