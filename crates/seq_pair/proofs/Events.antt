@@ -36,7 +36,7 @@ use Rattle.seq_pair.specs.declared.event.EnvEvent.{EnvEvent}
 use Rattle.seq_pair.specs.declared.event.EnvEvent.TheVariants.{Enter, Run, Value, Take, Hide, Gain, See, Pass}
 use Rattle.seq_pair.specs.declared.trace.PairEnd.TheVariants.{Same, SourceFailed, Cut}
 use Rattle.seq_pair.specs.Labels.{is_failed, LabelMatches, labelled}
-use Rattle.seq_pair.specs.Pair.{Pair, Stage, AtEntry, Inside, Over, is_below, is_shared, is_owned, wants_step, wants_value, wants_fence, is_at_entry, is_inside, is_without_failure, is_new_load, at_new_load, at_call, hears, lowered_at_call, stage_of, stage_after, labels_after, both_stepped, pair_step, goes_on, steps, parameter_count, register_count, may_hear, may_get, takes_value, is_lawful, given, entered, bared, after_event, Came, Unlawful, run_from}
+use Rattle.seq_pair.specs.Pair.{Pair, Stage, AtEntry, Inside, Over, is_below, is_shared, is_owned, wants_step, wants_value, wants_fence, is_at_entry, is_inside, is_without_failure, is_new_load, at_new_load, at_call, hears, arrives, lowered_at_call, stage_of, stage_after, labels_after, both_stepped, pair_step, goes_on, steps, parameter_count, register_count, may_hear, may_get, takes_value, is_lawful, given, entered, bared, after_event, Came, Unlawful, run_from}
 use Rattle.seq_pair.specs.Related.{loaded_at, IsOwned, PlacesPaired, Related, Stands, PairRelated}
 use Rattle.seq_pair.proofs.Places.{there, set_here, set_there, lower_paired, write_paired, write_source, write_target}
 use Rattle.seq_pair.proofs.Steps.{Outcome, out_failed, out_ended, out_on, insert_on, step_on}
@@ -172,7 +172,7 @@ module _ {p q : Program} {f : ℕ} (fn : PairedFunction p q f) where
   lower_stands (Over Cut) true t s e h = absurd h
 
   lowering_keeps : (s : Pair) → PairRelated fn s → PairRelated fn (lowered_at_call s)
-  lowering_keeps s h = record { labels = h.labels; stands = lower_stands s.stage (at_call (head_in s.target)) s.target s.source (λ e. e) h.stands }
+  lowering_keeps s h = record { labels = h.labels; stands = lower_stands s.stage (arrives s) s.target s.source (λ e. (and_parts (is_inside s.stage) (at_call (head_in s.target)) e).1) h.stands }
 
   module _ (s : Pair) (labels : AllByRecursion LabelMatches s.labels) (tl sl : Seen) (t' s' : Seq) where
     abbrev before_arrival : Pair

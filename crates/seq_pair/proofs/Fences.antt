@@ -14,7 +14,7 @@ use Rattle.seq_semantics.specs.declared.seen.Wants.TheVariants as want
 use Rattle.seq_semantics.specs.Seq.{Seq, head_in, wanted_by, wants_of, pass_seen_at, after_pass_at, pass_seen, after_pass}
 use Rattle.seq_pair.specs.Pair.{wants_fence}
 use Rattle.seq_pair.specs.Related.{Related}
-use Rattle.seq_pair.proofs.Steps.{Outcome, wants_here, fence_on}
+use Rattle.seq_pair.proofs.Steps.{Outcome, wants_in, fence_on}
 use Rattle.seq_pair.proofs.Values.{silent_steps, failing_steps}
 
 module _ {p q : Program} {f : ℕ} (fn : PairedFunction p q f) (path : List Visit) (t s : Seq) (rel : Related fn path t s) where
@@ -27,7 +27,7 @@ module _ {p q : Program} {f : ℕ} (fn : PairedFunction p q f) (path : List Visi
       (subst (λ g. Outcome fn (pass_seen_at h) (elim g as (λ _. Seen) [ Some i ↦ pass_seen_at i | None ↦ seen.Silent ]) (after_pass_at t h) (elim g as (λ _. Seq) [ Some i ↦ after_pass_at s i | None ↦ s ])) (sym es) o)
 
   not_fence : (o : Option Head) → wants_of t ≡ want.Fence → head_in t ≡ o → wants_fence (wanted_by o) ≡ false → ⊥
-  not_fence o w e g = false≢true (sym g ∙ ap wants_fence (sym (wants_here fn path t s rel o e) ∙ w))
+  not_fence o w e g = false≢true (sym g ∙ ap wants_fence (sym (wants_in t o rel.target_runs e) ∙ w))
 
   same_pass : (v : Visit) (h : Head) → head_in t ≡ Some h → v.head ≡ h → wants_of t ≡ want.Fence → SameNext fn path t.frame s.frame v h → Passes h
   same_pass v h et ev w (both_silent nt ns stays frames) = absurd (not_fence (Some h) w et (ap wants_fence (silent_steps t.frame.registers h nt)))

@@ -121,6 +121,10 @@ load_is_no_silent registers h e r x f = let g : next.Access (access.NaRead x) �
 store_is_no_silent : (registers : List Val) (h : Head) → next_at registers 1 h ≡ next.Silent → (x : ℕ) (a : Atom) → h ≡ Store x a → ⊥
 store_is_no_silent registers h e x a f = let g : next.Access (access.NaWrite x (evaluated registers a)) ≡ next.Silent = sym (ap (next_at registers 1) f) ∙ e in cc
 
+-- what a function waits for whose next statement this is
+pub wants_in : (u : Seq) (o : Option Head) → u.course ≡ Running → head_in u ≡ o → wants_of u ≡ wanted_by o
+wants_in u o c e = ap (λ (z : Course). elim z as (λ _. Wants) [ Running ↦ wanted_by (head_in u) | AtEnd ↦ want.Ended | HasFailed ↦ want.Ended ]) c ∙ ap wanted_by e
+
 module _ {p q : Program} {f : ℕ} (fn : PairedFunction p q f) (path : List Visit) (t s : Seq) (rel : Related fn path t s) where
   abbrev pub more : Visit → List Visit
   more v = one_more fn path v
@@ -170,12 +174,8 @@ module _ {p q : Program} {f : ℕ} (fn : PairedFunction p q f) (path : List Visi
     fresh = λ x a k. rel.facts.fresh x a (ap (λ o. owed o (level_on x a path)) e ∙ sym (like (level_on x a path)) ∙ k);
   }
 
-  -- what the target waits for
-  pub wants_here : (o : Option Head) → head_in t ≡ o → wants_of t ≡ wanted_by o
-  wants_here o e = ap (λ (c : Course). elim c as (λ _. Wants) [ Running ↦ wanted_by (head_in t) | AtEnd ↦ want.Ended | HasFailed ↦ want.Ended ]) rel.target_runs ∙ ap wanted_by e
-
   pub wants_at : (h : Head) → head_in t ≡ Some h → wants_of t ≡ wanted_at h
-  wants_at h e = wants_here (Some h) e
+  wants_at h e = wants_in t (Some h) rel.target_runs e
 
   -- Both store a value, where the source may.
   module _ (x : ℕ) (b c : Val) (v : Visit) (h : Head) (a : Atom) (stored : v.head ≡ Store x a)

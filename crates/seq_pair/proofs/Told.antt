@@ -1,5 +1,5 @@
 -- What the relation tells of a pair, and the laws.
-use Rattle.std.proofs.Common.{◌≡◌, ◌↔◌, ℕ, zero, suc, Bool, true, false, List, [], ◌∷◌, length, map, slice_get, Option, Some, None, refl, sym, ap, ◌∙◌, subst, inl, inr}
+use Rattle.std.proofs.Common.{◌≡◌, ◌↔◌, ◌⊎◌, ℕ, Option, zero, suc, Bool, true, false, List, [], ◌∷◌, length, map, slice_get, Some, None, refl, sym, ap, ◌∙◌, subst, inl, inr}
 use Rattle.std.proofs.lemmas.Bool.{false≢true, le-leb}
 use Rattle.std.proofs.lemmas.Option.{none-some, same_Some}
 use Rattle.std.specs.List.{AllByRecursion}
@@ -12,6 +12,7 @@ use Rattle.values_undef.proofs.Callers.{below_refl}
 use Rattle.il_syntax.specs.declared.program.Function.{Function}
 use Rattle.il_syntax.specs.declared.program.Location.{Location}
 use Rattle.il_syntax.specs.declared.program.Program.{Program}
+use Rattle.il_syntax.specs.declared.statement.Atom.{Atom}
 use Rattle.il_syntax.specs.declared.statement.Stmt.TheOpen.{Skip, Copy, Compute, Load, Store, AtomicLoad, AtomicStore, Update, Fence, Print, If, While, Call}
 use Rattle.il_syntax.specs.Statements.{Head}
 use Rattle.il_paths.specs.Code.{Visit}
@@ -28,15 +29,15 @@ use Rattle.seq_semantics.specs.declared.place.Perm.TheVariants.{Bare, Shared, Ow
 use Rattle.seq_semantics.specs.declared.place.Place.{Place}
 use Rattle.seq_semantics.specs.declared.place.Course.{Course}
 use Rattle.seq_semantics.specs.declared.place.Course.TheVariants.{Running, AtEnd, HasFailed}
-use Rattle.seq_semantics.specs.declared.seen.Wants.{Wants}
 use Rattle.seq_semantics.specs.declared.seen.Wants.TheVariants as want
-use Rattle.seq_semantics.specs.Seq.{Seq, place_in, head_in, wanted_by, wants_of, seq_begun}
+use Rattle.seq_semantics.specs.Seq.{Seq, place_in, head_in, wants_of, seq_begun}
 use Rattle.seq_pair.specs.declared.event.EnvEvent.{EnvEvent}
 use Rattle.seq_pair.specs.declared.trace.PairEnd.TheVariants.{Same, SourceFailed, Cut}
-use Rattle.seq_pair.specs.Pair.{Pair, Stage, AtEntry, Inside, Over, at_new_load, at_call, pair_begun, Came, pair_run}
+use Rattle.seq_pair.specs.Pair.{Pair, Stage, AtEntry, Inside, Over, at_new_load, at_call, hears as heard_at, pair_begun, Came, pair_run}
 use Rattle.seq_pair.specs.Related.{PlacePaired, Related, Stands, PairRelated}
 use Rattle.seq_pair.specs.Laws.{IsAcceptedPair, PlaceBelow, MemoryBelow, hands_over, StaysRelated, PairsStayRelated, IsInStep, PairsStayInStep}
 use Rattle.seq_pair.proofs.Events.{counted, run_keeps}
+use Rattle.seq_pair.proofs.Steps.{wants_in}
 
 at_depth_64 : (registers : List Val) (h : Head) → ((depth : ℕ) → next_at registers depth h ≡ next.Silent) → hands_over (Some h) ≡ false
 at_depth_64 registers Skip e = refl
@@ -96,37 +97,37 @@ module _ {p q : Program} {f : ℕ} (fn : PairedFunction p q f) (path : List Visi
   memory_below : hands_over (head_in t) ≡ true → MemoryBelow t s
   memory_below e x = place_below (pending fn x path) (place_in t.places x) (place_in s.places x) (settled_by (pairs_go_on p q f fn path t.frame s.frame rel.frames) e x) (rel.places x)
 
-  -- Both wait for the same.
-  wants_in : (u : Seq) (o : Option Head) → u.course ≡ Running → head_in u ≡ o → wants_of u ≡ wanted_by o
-  wants_in u o c e = ap (λ (z : Course). elim z as (λ _. Wants) [ Running ↦ wanted_by (head_in u) | AtEnd ↦ want.Ended | HasFailed ↦ want.Ended ]) c ∙ ap wanted_by e
+  -- Both wait for the same, but where the target's next statement is an inserted load.
+  abbrev WaitAlike : Type 0
+  WaitAlike = ((at_new_load (old_registers fn) (head_in t) ≡ true) × (wants_of t ≡ want.Step)) ⊎ (wants_of s ≡ wants_of t)
 
-  step_by : PairedNext fn path t.frame s.frame → wants_of t ≡ want.Step → at_new_load (old_registers fn) (head_in t) ≡ false → wants_of s ≡ want.Step
-  step_by (both_end et es settled) w n = wants_in s None rel.source_runs es
-  step_by (inserts v r x et ev new few settled stays gives_target) w n = absurd (false≢true (sym n ∙ ap (at_new_load (old_registers fn)) et ∙ le-leb (old_registers fn) r new))
-  step_by (turns v r x a et es ev l known stays gives_paired) w n = wants_in s (Some (Load r x)) rel.source_runs es
-  step_by (removes v x a et es ev below pends others frames) w n = wants_in s (Some (Store x a)) rel.source_runs es
-  step_by (same v h et es ev proper m) w n = wants_in s (Some h) rel.source_runs es ∙ sym (wants_in t (Some h) rel.target_runs et) ∙ w
+  wait_alike : PairedNext fn path t.frame s.frame → WaitAlike
+  wait_alike (both_end et es settled) = inr (wants_in s None rel.source_runs es ∙ sym (wants_in t None rel.target_runs et))
+  wait_alike (inserts v r x et ev new few settled stays gives_target) = inl (ap (at_new_load (old_registers fn)) et ∙ le-leb (old_registers fn) r new, wants_in t (Some (Load r x)) rel.target_runs et)
+  wait_alike (turns v r x a et es ev l known stays gives_paired) = inr (wants_in s (Some (Load r x)) rel.source_runs es ∙ sym (wants_in t (Some (Copy r a)) rel.target_runs et))
+  wait_alike (removes v x a et es ev below pends others frames) = inr (wants_in s (Some (Store x a)) rel.source_runs es ∙ sym (wants_in t (Some Skip) rel.target_runs et))
+  wait_alike (same v h et es ev proper m) = inr (wants_in s (Some h) rel.source_runs es ∙ sym (wants_in t (Some h) rel.target_runs et))
 
-  value_by : PairedNext fn path t.frame s.frame → wants_of t ≡ want.Value → wants_of s ≡ want.Value
-  value_by (both_end et es settled) w = let g : want.Step ≡ want.Value = sym (wants_in t None rel.target_runs et) ∙ w in cc
-  value_by (inserts v r x et ev new few settled stays gives_target) w = let g : want.Step ≡ want.Value = sym (wants_in t (Some (Load r x)) rel.target_runs et) ∙ w in cc
-  value_by (turns v r x a et es ev l known stays gives_paired) w = let g : want.Step ≡ want.Value = sym (wants_in t (Some (Copy r a)) rel.target_runs et) ∙ w in cc
-  value_by (removes v x a et es ev below pends others frames) w = let g : want.Step ≡ want.Value = sym (wants_in t (Some Skip) rel.target_runs et) ∙ w in cc
-  value_by (same v h et es ev proper m) w = wants_in s (Some h) rel.source_runs es ∙ sym (wants_in t (Some h) rel.target_runs et) ∙ w
+  step_by : WaitAlike → wants_of t ≡ want.Step → at_new_load (old_registers fn) (head_in t) ≡ false → wants_of s ≡ want.Step
+  step_by (inl h) w n = absurd (false≢true (sym n ∙ h.0))
+  step_by (inr e) w n = e ∙ w
 
-  fence_by : PairedNext fn path t.frame s.frame → wants_of t ≡ want.Fence → wants_of s ≡ want.Fence
-  fence_by (both_end et es settled) w = let g : want.Step ≡ want.Fence = sym (wants_in t None rel.target_runs et) ∙ w in cc
-  fence_by (inserts v r x et ev new few settled stays gives_target) w = let g : want.Step ≡ want.Fence = sym (wants_in t (Some (Load r x)) rel.target_runs et) ∙ w in cc
-  fence_by (turns v r x a et es ev l known stays gives_paired) w = let g : want.Step ≡ want.Fence = sym (wants_in t (Some (Copy r a)) rel.target_runs et) ∙ w in cc
-  fence_by (removes v x a et es ev below pends others frames) w = let g : want.Step ≡ want.Fence = sym (wants_in t (Some Skip) rel.target_runs et) ∙ w in cc
-  fence_by (same v h et es ev proper m) w = wants_in s (Some h) rel.source_runs es ∙ sym (wants_in t (Some h) rel.target_runs et) ∙ w
+  value_by : WaitAlike → wants_of t ≡ want.Value → wants_of s ≡ want.Value
+  value_by (inl h) w = let g : want.Step ≡ want.Value = sym h.1 ∙ w in cc
+  value_by (inr e) w = e ∙ w
 
-  call_by : PairedNext fn path t.frame s.frame → at_call (head_in t) ≡ true → at_call (head_in s) ≡ true
-  call_by (both_end et es settled) e = absurd (false≢true (sym (ap at_call et) ∙ e))
-  call_by (inserts v r x et ev new few settled stays gives_target) e = absurd (false≢true (sym (ap at_call et) ∙ e))
-  call_by (turns v r x a et es ev l known stays gives_paired) e = absurd (false≢true (sym (ap at_call et) ∙ e))
-  call_by (removes v x a et es ev below pends others frames) e = absurd (false≢true (sym (ap at_call et) ∙ e))
-  call_by (same v h et es ev proper m) e = ap at_call es ∙ sym (ap at_call et) ∙ e
+  fence_by : WaitAlike → wants_of t ≡ want.Fence → wants_of s ≡ want.Fence
+  fence_by (inl h) w = let g : want.Step ≡ want.Fence = sym h.1 ∙ w in cc
+  fence_by (inr e) w = e ∙ w
+
+  -- what is true of the target's next statement, but of no end, load, copy or `skip`, is true of the source's
+  head_by : (test : Option Head → Bool) → test None ≡ false → ((r x : ℕ) → test (Some (Load r x)) ≡ false) → ((r : ℕ) (a : Atom) → test (Some (Copy r a)) ≡ false) → test (Some Skip) ≡ false
+      → PairedNext fn path t.frame s.frame → test (head_in t) ≡ true → test (head_in s) ≡ true
+  head_by test none load copy skip (both_end et es settled) e = absurd (false≢true (sym none ∙ sym (ap test et) ∙ e))
+  head_by test none load copy skip (inserts v r x et ev new few settled stays gives_target) e = absurd (false≢true (sym (load r x) ∙ sym (ap test et) ∙ e))
+  head_by test none load copy skip (turns v r x a et es ev l known stays gives_paired) e = absurd (false≢true (sym (copy r a) ∙ sym (ap test et) ∙ e))
+  head_by test none load copy skip (removes v x a et es ev below pends others frames) e = absurd (false≢true (sym skip ∙ sym (ap test et) ∙ e))
+  head_by test none load copy skip (same v h et es ev proper m) e = ap test es ∙ sym (ap test et) ∙ e
 
   pub goes : PairedNext fn path t.frame s.frame
   goes = pairs_go_on p q f fn path t.frame s.frame rel.frames
@@ -177,15 +178,19 @@ module _ {p q : Program} {f : ℕ} (fn : PairedFunction p q f) where
 
   in_step : (s : Pair) → PairRelated fn s → IsInStep (old_registers fn) s
   in_step s h = record {
-    steps = λ i w n. let r = at i in step_by fn r.0 s.target s.source r.1 (goes fn r.0 s.target s.source r.1) w n;
-    values = λ i w. let r = at i in value_by fn r.0 s.target s.source r.1 (goes fn r.0 s.target s.source r.1) w;
-    fences = λ i w. let r = at i in fence_by fn r.0 s.target s.source r.1 (goes fn r.0 s.target s.source r.1) w;
-    calls = λ i e. let r = at i in call_by fn r.0 s.target s.source r.1 (goes fn r.0 s.target s.source r.1) e;
-    runs = λ i. (at i).1.target_runs;
+    runs = λ i. (inside i).1.target_runs;
+    steps = λ i w n. let r = inside i in step_by fn r.0 s.target s.source r.1 (alike i) w n;
+    values = λ i w. let r = inside i in value_by fn r.0 s.target s.source r.1 (alike i) w;
+    fences = λ i w. let r = inside i in fence_by fn r.0 s.target s.source r.1 (alike i) w;
+    calls = λ i e. let r = inside i in head_by fn r.0 s.target s.source r.1 at_call refl (λ a x. refl) (λ a b. refl) refl (goes fn r.0 s.target s.source r.1) e;
+    hears = λ i e. let r = inside i in head_by fn r.0 s.target s.source r.1 heard_at refl (λ a x. refl) (λ a b. refl) refl (goes fn r.0 s.target s.source r.1) e;
   }
     where
-      at : s.stage ≡ Inside → Stands fn Inside s.target s.source
-      at i = subst (λ stage. Stands fn stage s.target s.source) i h.stands
+      inside : s.stage ≡ Inside → Stands fn Inside s.target s.source
+      inside i = subst (λ stage. Stands fn stage s.target s.source) i h.stands
+
+      alike : (i : s.stage ≡ Inside) → WaitAlike fn (inside i).0 s.target s.source (inside i).1
+      alike i = let r = inside i in wait_alike fn r.0 s.target s.source r.1 (goes fn r.0 s.target s.source r.1)
 
 function_proper : (p : Program) (fs : List Function) (k : ℕ) (g : Function) → slice_get fs k ≡ Some g → AllByRecursion (IsProperFunction p) fs → IsProperFunction p g
 function_proper p [] k g e all = absurd (none-some g e)

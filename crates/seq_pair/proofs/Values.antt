@@ -24,17 +24,15 @@ use Rattle.paired_threads.specs.Functions.{PairedFunction}
 use Rattle.paired_threads.specs.Facts.{owed, FactsHold, FactsStay}
 use Rattle.paired_threads.specs.Next.{one_more, PendingStays, GivesPaired, SameNext, both_silent, source_fails, loads, stores, loads_atomic, stores_atomic, updates, fences, prints, calls, PairedNext, both_end, inserts, turns, removes, same}
 use Rattle.paired_threads.proofs.GoOn.{pairs_go_on}
-use Rattle.seq_semantics.specs.declared.place.Course.{Course}
-use Rattle.seq_semantics.specs.declared.place.Course.TheVariants.{Running, AtEnd, HasFailed}
+use Rattle.seq_semantics.specs.declared.place.Course.TheVariants.{HasFailed}
 use Rattle.seq_semantics.specs.declared.seen.Seen.{Seen}
 use Rattle.seq_semantics.specs.declared.seen.Seen.TheVariants as seen
-use Rattle.seq_semantics.specs.declared.seen.Wants.{Wants}
 use Rattle.seq_semantics.specs.declared.seen.Wants.TheVariants as want
-use Rattle.seq_semantics.specs.Seq.{Seq, with_frame, over, lowered_if, head_in, wanted_at, wanted_by, wants_of, value_seen_at, after_value_at, value_seen, after_value}
+use Rattle.seq_semantics.specs.Seq.{Seq, with_frame, over, lowered_if, head_in, wanted_at, wants_of, value_seen_at, after_value_at, value_seen, after_value}
 use Rattle.seq_pair.specs.Labels.{is_failed, reads_below, updates_below, misses_below, calls_below}
 use Rattle.seq_pair.specs.Pair.{wants_value}
 use Rattle.seq_pair.specs.Related.{loaded_at, IsOwned, Related}
-use Rattle.seq_pair.proofs.Steps.{Outcome, out_failed, out_on, quiet, gave_others, same_memory, lowered_memory, facts_at, wants_at}
+use Rattle.seq_pair.proofs.Steps.{Outcome, out_failed, out_on, quiet, gave_others, same_memory, lowered_memory, facts_at, wants_in, wants_at}
 
 -- a statement that waits for a value or at a fence makes no silent step, and does not fail
 pub silent_steps : (registers : List Val) (h : Head) → ((depth : ℕ) → next_at registers depth h ≡ next.Silent) → wanted_at h ≡ want.Step
@@ -143,8 +141,7 @@ module _ {p q : Program} {f : ℕ} (fn : PairedFunction p q f) (path : List Visi
       out_on (one_more fn path v) refl refl (calls_below k, tt) (given v (Call r g args) r et ev stays gives_paired (λ x a e. cc) (λ i x e. cc) refl)
 
   none_wants : wants_of t ≡ want.Value → head_in t ≡ None → ⊥
-  none_wants w e =
-      let k : want.Value ≡ want.Step = sym w ∙ ap (λ (z : Course). elim z as (λ _. Wants) [ Running ↦ wanted_by (head_in t) | AtEnd ↦ want.Ended | HasFailed ↦ want.Ended ]) rel.target_runs ∙ ap wanted_by e in cc
+  none_wants w e = let k : want.Value ≡ want.Step = sym w ∙ wants_in t None rel.target_runs e in cc
 
   value_by : PairedNext fn path t.frame s.frame → wants_of t ≡ want.Value → Outcome fn (value_seen t b) (value_seen s c) (after_value t b) (after_value s c)
   value_by (both_end et es settled) w = absurd (none_wants w et)
