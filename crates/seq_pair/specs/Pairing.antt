@@ -1,8 +1,8 @@
 -- What a pair is as a value of the code, and what the code knows of it.
-use Rattle.std.specs.Prelude.{◌≡◌, ℕ, ◌≤◌, true, List, length}
+use Rattle.std.specs.Prelude.{◌≡◌, ℕ, ◌<◌, ◌≤◌, true, List, length}
 use Rattle.values_undef.specs.declared.value.Val.{Val}
 use Rattle.il_syntax.specs.declared.program.Program.{Program}
-use Rattle.thread_core.specs.Programs.{code_of}
+use Rattle.thread_core.specs.Programs.{IsProperProgram, code_of}
 use Rattle.seq_semantics.specs.Seq.{Seq}
 use Rattle.seq_semantics.specs.Held.{seq_in, IsOf}
 use Rattle.seq_pair.specs.declared.event.EnvEvent.{EnvEvent}
@@ -13,6 +13,16 @@ use Rattle.seq_pair.specs.Laws.{IsInStep}
 -- the same in two programs
 abbrev pub pair_in : (p q : Program) → Pairing → Pair
 pair_in p q h = record { stage = h.stage; target = seq_in q h.target; source = seq_in p h.source; labels = h.labels }
+
+-- two programs that both have the function, with as many parameters, and as many locations
+pub record ArePaired (p q : Program) (f : ℕ) : Type 0 where
+  pub source : IsProperProgram p
+  pub target : IsProperProgram q
+  pub same_na : length q.na ≡ length p.na
+  pub source_there : f < length p.functions
+  pub target_there : f < length q.functions
+  pub same_parameters : parameter_count q f ≡ parameter_count p f
+  pub few_parameters : parameter_count p f ≤ 8
 
 -- a function stands at its beginning
 abbrev pub IsAtBeginning : Program → Seq → Type 0

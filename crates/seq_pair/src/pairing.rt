@@ -1,9 +1,8 @@
 //! Target and source of a function, each alone, and which events they admit together.
 ghost use Rattle.std.specs.Prelude.{◌≡◌, ◌<◌, ◌&&◌, nat_le, length};
 ghost use Rattle.il_syntax.specs.declared.program.Program.{Program as TheProgram};
-ghost use Rattle.seq_pair.specs.Laws.{IsAcceptedPair};
 ghost use Rattle.seq_pair.specs.Pair.{is_inside, is_without_failure, is_below, may_hear, may_get, takes_value, is_lawful, goes_on};
-ghost use Rattle.seq_pair.specs.Pairing.{pair_in, IsPairOf};
+ghost use Rattle.seq_pair.specs.Pairing.{pair_in, ArePaired, IsPairOf};
 
 use crate::event::EnvEvent;
 use crate::stage::Stage;
@@ -32,7 +31,7 @@ fn is_below(t: Val, s: Val) -> bool
 impl Pairing {
     /// The event is lawful.
     pub fn admits(&self, p: &Program, q: &Program, f: u32, e: &EnvEvent) -> bool
-        requires accepted { IsAcceptedPair p.now q.now f }
+        requires programs { ArePaired p.now q.now f }
         requires pair { IsPairOf p.now q.now f self.now }
         ensures { result ≡ is_lawful p.now f (pair_in p.now q.now self.now) e.now }
     {
@@ -52,7 +51,7 @@ impl Pairing {
         }
     }
 
-    fn is_inside(&self) -> bool
+    pub fn is_inside(&self) -> bool
         ensures { result ≡ is_inside self.now.stage }
     {
         match self.stage {
@@ -92,7 +91,7 @@ impl Pairing {
 
     /// A parameter has no value yet, or a value is wanted.
     fn takes_value(&self, p: &Program, q: &Program, f: u32) -> bool
-        requires accepted { IsAcceptedPair p.now q.now f }
+        requires programs { ArePaired p.now q.now f }
         requires pair { IsPairOf p.now q.now f self.now }
         ensures { result ≡ takes_value p.now f (pair_in p.now q.now self.now) }
     {
@@ -107,7 +106,7 @@ impl Pairing {
 
     /// Both lose the location.
     fn may_take(&self, p: &Program, q: &Program, f: u32, x: u32) -> bool
-        requires accepted { IsAcceptedPair p.now q.now f }
+        requires programs { ArePaired p.now q.now f }
         requires pair { IsPairOf p.now q.now f self.now }
         ensures { result ≡ is_lawful p.now f (pair_in p.now q.now self.now) (EnvEvent.Take x) }
     {
@@ -119,7 +118,7 @@ impl Pairing {
 
     /// The source loses the location.
     fn may_hide(&self, p: &Program, q: &Program, f: u32, x: u32) -> bool
-        requires accepted { IsAcceptedPair p.now q.now f }
+        requires programs { ArePaired p.now q.now f }
         requires pair { IsPairOf p.now q.now f self.now }
         ensures { result ≡ is_lawful p.now f (pair_in p.now q.now self.now) (EnvEvent.Hide x) }
     {
@@ -130,7 +129,7 @@ impl Pairing {
 
     /// Others may be heard.
     fn may_hear(&self, p: &Program, q: &Program, f: u32) -> bool
-        requires accepted { IsAcceptedPair p.now q.now f }
+        requires programs { ArePaired p.now q.now f }
         requires pair { IsPairOf p.now q.now f self.now }
         ensures { result ≡ may_hear (pair_in p.now q.now self.now) }
     {
@@ -146,7 +145,7 @@ impl Pairing {
 
     /// Others may be heard, and neither has the location.
     fn may_get(&self, p: &Program, q: &Program, f: u32, x: u32) -> bool
-        requires accepted { IsAcceptedPair p.now q.now f }
+        requires programs { ArePaired p.now q.now f }
         requires pair { IsPairOf p.now q.now f self.now }
         ensures { result ≡ may_get p.now (pair_in p.now q.now self.now) x }
     {
@@ -158,7 +157,7 @@ impl Pairing {
 
     /// A step is to be made.
     pub fn goes_on(&self, p: &Program, q: &Program, f: u32) -> bool
-        requires accepted { IsAcceptedPair p.now q.now f }
+        requires programs { ArePaired p.now q.now f }
         requires pair { IsPairOf p.now q.now f self.now }
         ensures { result ≡ goes_on (pair_in p.now q.now self.now) }
     {

@@ -2,9 +2,9 @@
 ghost use Rattle.std.specs.Prelude.{◌≡◌, ℕ, ◌≤◌, true, IfOk};
 ghost use Rattle.seq_semantics.specs.Held.{seq_in};
 ghost use Rattle.seq_semantics.specs.Seq.{head_in};
-ghost use Rattle.seq_pair.specs.Laws.{IsAcceptedPair, IsInStep};
+ghost use Rattle.seq_pair.specs.Laws.{IsInStep};
 ghost use Rattle.seq_pair.specs.Pair.{is_lawful, after_event, at_call, goes_on, steps, pair_step, register_count, both_stepped, lowered_at_call, arrives, takes_value};
-ghost use Rattle.seq_pair.specs.Pairing.{pair_in, IsPairOf, IsLed};
+ghost use Rattle.seq_pair.specs.Pairing.{pair_in, ArePaired, IsPairOf, IsLed};
 
 use crate::event::EnvEvent;
 use crate::pairing::Pairing;
@@ -26,7 +26,7 @@ impl Pairing {
         f: u32,
         e: &EnvEvent,
     ) -> Result<(), NoMemory>
-        requires accepted { IsAcceptedPair p.now q.now f }
+        requires programs { ArePaired p.now q.now f }
         requires pair { IsPairOf p.now q.now f self.old }
         requires lawful { is_lawful p.now f (pair_in p.now q.now self.old) e.now ≡ true }
         requires led { IsLed p.now q.now f (pair_in p.now q.now self.old) }
@@ -59,7 +59,7 @@ impl Pairing {
 
     /// Ends the entry: both functions begin with the values that they were given.
     fn enter(&mut self, alloc: Global, p: &Program, q: &Program, f: u32) -> Result<(), NoMemory>
-        requires accepted { IsAcceptedPair p.now q.now f }
+        requires programs { ArePaired p.now q.now f }
         requires pair { IsPairOf p.now q.now f self.old }
         requires lawful { is_lawful p.now f (pair_in p.now q.now self.old) EnvEvent.Enter ≡ true }
         requires next { IsInStep (register_count p.now f) (after_event p.now q.now f (pair_in p.now q.now self.old) EnvEvent.Enter) }
@@ -77,7 +77,7 @@ impl Pairing {
 
     /// Makes at most so many steps of the target, and its partner steps of the source.
     fn run(&mut self, p: &Program, q: &Program, f: u32, n: u32) -> Result<(), NoMemory>
-        requires accepted { IsAcceptedPair p.now q.now f }
+        requires programs { ArePaired p.now q.now f }
         requires pair { IsPairOf p.now q.now f self.old }
         requires in_step { (k : ℕ) → k ≤ n → IsInStep (register_count p.now f) (steps p.now q.now (register_count p.now f) k (pair_in p.now q.now self.old)) }
         ensures state { IfOk result (λ _. pair_in p.now q.now self.new ≡ steps p.now q.now (register_count p.now f) n (pair_in p.now q.now self.old)) }
@@ -94,7 +94,7 @@ impl Pairing {
 
     /// Makes a step of the target, and of the source but at an inserted load.
     fn step(&mut self, p: &Program, q: &Program, f: u32, old: usize) -> Result<(), NoMemory>
-        requires accepted { IsAcceptedPair p.now q.now f }
+        requires programs { ArePaired p.now q.now f }
         requires pair { IsPairOf p.now q.now f self.old }
         requires goes { goes_on (pair_in p.now q.now self.old) ≡ true }
         requires now { IsInStep old (pair_in p.now q.now self.old) }
@@ -114,7 +114,7 @@ impl Pairing {
 
     /// Gives a parameter its value, or the value that is wanted.
     fn give(&mut self, p: &Program, q: &Program, f: u32, target: Val, source: Val) -> Result<(), NoMemory>
-        requires accepted { IsAcceptedPair p.now q.now f }
+        requires programs { ArePaired p.now q.now f }
         requires pair { IsPairOf p.now q.now f self.old }
         requires takes { takes_value p.now f (pair_in p.now q.now self.old) ≡ true }
         requires now { IsInStep (register_count p.now f) (pair_in p.now q.now self.old) }
@@ -134,7 +134,7 @@ impl Pairing {
 
     /// Both pass a fence.
     fn pass(&mut self, p: &Program, q: &Program, f: u32) -> Result<(), NoMemory>
-        requires accepted { IsAcceptedPair p.now q.now f }
+        requires programs { ArePaired p.now q.now f }
         requires pair { IsPairOf p.now q.now f self.old }
         requires lawful { is_lawful p.now f (pair_in p.now q.now self.old) EnvEvent.Pass ≡ true }
         requires now { IsInStep (register_count p.now f) (pair_in p.now q.now self.old) }
@@ -149,7 +149,7 @@ impl Pairing {
 
     /// Both have made a step, of which this was seen.
     fn meet(&mut self, p: &Program, q: &Program, f: u32, target: Seen, source: Seen) -> Result<(), NoMemory>
-        requires accepted { IsAcceptedPair p.now q.now f }
+        requires programs { ArePaired p.now q.now f }
         requires target { IsOf q.now self.old.target }
         requires source { IsOf p.now self.old.source }
         requires next { IsInStep (register_count p.now f) (both_stepped (pair_in p.now q.now self.old) target source (seq_in q.now self.old.target) (seq_in p.now self.old.source)) }
@@ -174,7 +174,7 @@ impl Pairing {
 
     /// At a call what was owned becomes shared, in both.
     fn lower_at_call(&mut self, p: &Program, q: &Program, f: u32)
-        requires accepted { IsAcceptedPair p.now q.now f }
+        requires programs { ArePaired p.now q.now f }
         requires pair { IsPairOf p.now q.now f self.old }
         requires calls { arrives (pair_in p.now q.now self.old) ≡ true → at_call (head_in (seq_in p.now self.old.source)) ≡ true }
         ensures state { pair_in p.now q.now self.new ≡ lowered_at_call (pair_in p.now q.now self.old) }
@@ -188,7 +188,7 @@ impl Pairing {
 
     /// Both lose a location. The source may have lost it before.
     fn take(&mut self, p: &Program, q: &Program, f: u32, x: u32)
-        requires accepted { IsAcceptedPair p.now q.now f }
+        requires programs { ArePaired p.now q.now f }
         requires pair { IsPairOf p.now q.now f self.old }
         requires lawful { is_lawful p.now f (pair_in p.now q.now self.old) (EnvEvent.Take x) ≡ true }
         ensures state { pair_in p.now q.now self.new ≡ after_event p.now q.now f (pair_in p.now q.now self.old) (EnvEvent.Take x) }
@@ -202,7 +202,7 @@ impl Pairing {
 
     /// The source loses a location.
     fn hide(&mut self, p: &Program, q: &Program, f: u32, x: u32)
-        requires accepted { IsAcceptedPair p.now q.now f }
+        requires programs { ArePaired p.now q.now f }
         requires pair { IsPairOf p.now q.now f self.old }
         requires lawful { is_lawful p.now f (pair_in p.now q.now self.old) (EnvEvent.Hide x) ≡ true }
         ensures state { pair_in p.now q.now self.new ≡ after_event p.now q.now f (pair_in p.now q.now self.old) (EnvEvent.Hide x) }
@@ -213,7 +213,7 @@ impl Pairing {
 
     /// Both are given a location.
     fn gain(&mut self, p: &Program, q: &Program, f: u32, x: u32, target: Val, source: Val)
-        requires accepted { IsAcceptedPair p.now q.now f }
+        requires programs { ArePaired p.now q.now f }
         requires pair { IsPairOf p.now q.now f self.old }
         requires may_get { may_get p.now (pair_in p.now q.now self.old) x ≡ true }
         requires now { IsInStep (register_count p.now f) (pair_in p.now q.now self.old) }
@@ -226,7 +226,7 @@ impl Pairing {
 
     /// The target is given a location.
     fn see(&mut self, p: &Program, q: &Program, f: u32, x: u32, v: Val)
-        requires accepted { IsAcceptedPair p.now q.now f }
+        requires programs { ArePaired p.now q.now f }
         requires pair { IsPairOf p.now q.now f self.old }
         requires may_get { may_get p.now (pair_in p.now q.now self.old) x ≡ true }
         ensures state { pair_in p.now q.now self.new ≡ after_event p.now q.now f (pair_in p.now q.now self.old) (EnvEvent.See x v) }

@@ -1,14 +1,14 @@
 //! Runs of a pair.
-ghost use Rattle.std.specs.Prelude.{◌≡◌, [], ◌<◌, ◌≤◌, ◌^◌, length, IfOk, IfErr, IsSomeAnd};
+ghost use Rattle.std.specs.Prelude.{◌≡◌, [], ◌<◌, ◌≤◌, ◌^◌, length, IfOk, IfErr};
 ghost use Rattle.std.specs.List.{AllByRecursion};
-ghost use Rattle.thread_core.specs.Programs.{IsProperProgram, function_at};
+ghost use Rattle.thread_core.specs.Programs.{IsProperProgram};
 ghost use Rattle.seq_semantics.specs.Seq.{seq_begun};
 ghost use Rattle.seq_semantics.specs.Held.{seq_in, IsOf};
 ghost use Rattle.seq_pair.specs.Answers.{IsTraceOf, IsFaultOf};
 ghost use Rattle.seq_pair.specs.Labels.{LabelMatches};
 ghost use Rattle.seq_pair.specs.Laws.{IsAcceptedPair};
-ghost use Rattle.seq_pair.specs.Pair.{pair_begun, pair_end};
-ghost use Rattle.seq_pair.specs.Pairing.{pair_in, IsPairOf};
+ghost use Rattle.seq_pair.specs.Pair.{pair_begun, pair_end, parameter_count};
+ghost use Rattle.seq_pair.specs.Pairing.{pair_in, ArePaired, IsPairOf};
 
 use crate::event::EnvEvent;
 use crate::pairing::Pairing;
@@ -24,6 +24,7 @@ use values_undef::{NoMemory, Val, Vals};
 fn begun(alloc: Global, p: &Program, f: u32) -> Result<SeqState, NoMemory>
     requires proper { IsProperProgram p.now }
     requires there { f < length p.now.functions }
+    requires few { parameter_count p.now f ≤ 8 }
     ensures state { IfOk result (λ s. seq_in p.now s ≡ seq_begun p.now f []) }
     ensures program { IfOk result (λ s. IsOf p.now s) }
 {
@@ -33,7 +34,7 @@ fn begun(alloc: Global, p: &Program, f: u32) -> Result<SeqState, NoMemory>
 
 /// The pair before the first event.
 fn begin(alloc: Global, p: &Program, q: &Program, f: u32) -> Result<Pairing, NoMemory>
-    requires accepted { IsAcceptedPair p.now q.now f }
+    requires programs { ArePaired p.now q.now f }
     ensures state { IfOk result (λ s. pair_in p.now q.now s ≡ pair_begun p.now q.now f) }
     ensures pair { IfOk result (λ s. IsPairOf p.now q.now f s) }
 {
@@ -82,7 +83,8 @@ pub fn seq_pair(
     laws::pairs_stay_related();
     laws::pairs_stay_in_step();
     let mut pair = begin(alloc, source, target, function)?;
-    for (at, event) in events.iter().enumerate() {
+    for at in 0..events.len() {
+        let event = &events[at];
         if !pair.admits(source, target, function, event) {
             return Err(PairFault::Event { at: at as u32 });
         }
