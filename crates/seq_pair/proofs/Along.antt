@@ -6,7 +6,7 @@ use Rattle.std.proofs.lemmas.Bool.{false≢true, le-leb, leb-true, and_parts}
 use Rattle.il_syntax.specs.declared.program.Program.{Program}
 use Rattle.seq_pair.specs.declared.event.EnvEvent.{EnvEvent}
 use Rattle.seq_pair.specs.declared.event.EnvEvent.TheVariants.{Run}
-use Rattle.seq_pair.specs.Pair.{Pair, is_inside, is_lawful, after_event, steps, register_count, Came, Unlawful, PairRun, pair_begun, run_from, pair_run}
+use Rattle.seq_pair.specs.Pair.{Pair, is_inside, is_lawful, after_event, goes_on, pair_step, steps, register_count, Came, Unlawful, PairRun, pair_begun, run_from, pair_run}
 use Rattle.seq_pair.specs.Laws.{IsAcceptedPair, IsInStep, PairsStayInStep}
 use Rattle.seq_pair.specs.Pairing.{IsLed}
 
@@ -63,3 +63,11 @@ module _ (p q : Program) (f : ℕ) where
   pub led_along : (s : Pair) (n : ℕ) → IsLed p q f s → is_lawful p f s (Run n) ≡ true → (k : ℕ) → k ≤ n → IsInStep (register_count p f) (steps p q (register_count p f) k s)
   led_along s n h l zero b = h.now
   led_along s n h l (suc k) b = h.next (Run (suc k)) (may_run (is_inside s.stage) n k (omega (arith, b)) l)
+
+module _ (p q : Program) (old : ℕ) where
+  pub goes_once : (n : ℕ) (s t : Pair) → goes_on s ≡ true → t ≡ pair_step p q old s → steps p q old n t ≡ steps p q old (suc n) s
+  goes_once n s t g e = ap (steps p q old n) e ∙ sym (ap (λ b. cond b (steps p q old n (pair_step p q old s)) s) g)
+
+  pub stands_still : (n : ℕ) (s : Pair) → goes_on s ≡ false → steps p q old n s ≡ s
+  stands_still zero s g = refl
+  stands_still (suc n) s g = ap (λ b. cond b (steps p q old n (pair_step p q old s)) s) g
