@@ -36,7 +36,7 @@ use Rattle.seq_pair.specs.declared.event.EnvEvent.{EnvEvent}
 use Rattle.seq_pair.specs.declared.event.EnvEvent.TheVariants.{Enter, Run, Value, Take, Hide, Gain, See, Pass}
 use Rattle.seq_pair.specs.declared.trace.PairEnd.TheVariants.{Same, SourceFailed, Cut}
 use Rattle.seq_pair.specs.Labels.{is_failed, LabelMatches, labelled}
-use Rattle.seq_pair.specs.Pair.{Pair, Stage, AtEntry, Inside, Over, is_below, is_shared, is_owned, wants_step, wants_value, wants_fence, is_at_entry, is_inside, is_without_failure, is_new_load, at_new_load, at_call, hears, arrives, lowered_at_call, stage_of, stage_after, labels_after, both_stepped, pair_step, goes_on, steps, parameter_count, register_count, may_hear, may_get, takes_value, is_lawful, given, entered, bared, after_event, Came, Unlawful, run_from}
+use Rattle.seq_pair.specs.Pair.{Pair, Stage, AtEntry, Inside, Over, is_below, is_shared, is_owned, wants_step, wants_value, wants_fence, is_at_entry, is_inside, is_without_failure, is_new_load, at_new_load, at_call, hears, arrives, lowered_at_call, stage_of, stage_after, labels_after, both_stepped, pair_step, goes_on, steps, parameter_count, register_count, may_hear, may_get, takes_value, is_lawful, given, started, bared, pair_after, Came, Unlawful, run_from}
 use Rattle.seq_pair.specs.Related.{loaded_at, IsOwned, PlacesPaired, Related, Stands, PairRelated}
 use Rattle.seq_pair.proofs.Places.{there, set_here, set_there, lower_paired, write_paired, write_source, write_target}
 use Rattle.seq_pair.proofs.Steps.{Outcome, out_failed, out_ended, out_on, insert_on, step_on}
@@ -405,7 +405,7 @@ module _ {p q : Program} {f : ℕ} (fn : PairedFunction p q f) where
       let r = inside s i h in
       stepping_keeps s h.labels (pass_seen s.target) (pass_seen s.source) (after_pass s.target) (after_pass s.source) (pass_on fn r.0 s.target s.source r.1 w)
 
-  enter_keeps : (s : Pair) (stage : Stage) → s.stage ≡ stage → PairRelated fn s → PairRelated fn (entered p q f s stage)
+  enter_keeps : (s : Pair) (stage : Stage) → s.stage ≡ stage → PairRelated fn s → PairRelated fn (started p q f s stage)
   enter_keeps s (AtEntry ts ss) e h =
       let r = subst (λ stage. Stands fn stage s.target s.source) e h.stands in
       lowering_keeps (record s { stage = Inside; target = with_frame s.target (called q f ts); source = with_frame s.source (called p f ss) }) (record {
@@ -443,7 +443,7 @@ module _ {p q : Program} {f : ℕ} (fn : PairedFunction p q f) where
       record { hear = hearing s g.0; bare = bare_true (place_in s.source.places x).permission m.1 }
 
   -- Each lawful event leaves the pair related.
-  pub event_keeps : (s : Pair) (e : EnvEvent) → is_lawful p f s e ≡ true → PairRelated fn s → PairRelated fn (after_event p q f s e)
+  pub event_keeps : (s : Pair) (e : EnvEvent) → is_lawful p f s e ≡ true → PairRelated fn s → PairRelated fn (pair_after p q f s e)
   event_keeps s Enter l h = enter_keeps s s.stage refl h
   event_keeps s (Run n) l h = subst (λ k. PairRelated fn (steps p q k n s)) (sym (counted fn)) (steps_keep n s h)
   event_keeps s (Value b c) l h =
@@ -468,11 +468,11 @@ module _ {p q : Program} {f : ℕ} (fn : PairedFunction p q f) where
   came_same : (a b : Pair) → Came a ≡ Came b → a ≡ b
   came_same a b e = cc
 
-  run_by : (at : ℕ) (s s' : Pair) (e : EnvEvent) (events : List EnvEvent) (b : Bool) → is_lawful p f s e ≡ b → PairRelated fn s → (PairRelated fn (after_event p q f s e) → run_from p q f (at + 1) (after_event p q f s e) events ≡ Came s' → PairRelated fn s')
-      → cond b (run_from p q f (at + 1) (after_event p q f s e) events) (Unlawful at) ≡ Came s' → PairRelated fn s'
+  run_by : (at : ℕ) (s s' : Pair) (e : EnvEvent) (events : List EnvEvent) (b : Bool) → is_lawful p f s e ≡ b → PairRelated fn s → (PairRelated fn (pair_after p q f s e) → run_from p q f (at + 1) (pair_after p q f s e) events ≡ Came s' → PairRelated fn s')
+      → cond b (run_from p q f (at + 1) (pair_after p q f s e) events) (Unlawful at) ≡ Came s' → PairRelated fn s'
   run_by at s s' e events true l h more c = more (event_keeps s e l h) c
   run_by at s s' e events false l h more c = cc
 
   pub run_keeps : (at : ℕ) (s s' : Pair) (events : List EnvEvent) → PairRelated fn s → run_from p q f at s events ≡ Came s' → PairRelated fn s'
   run_keeps at s s' [] h e = subst (PairRelated fn) (came_same s s' e) h
-  run_keeps at s s' (e ∷ events) h c = run_by at s s' e events (is_lawful p f s e) refl h (run_keeps (at + 1) (after_event p q f s e) s' events) c
+  run_keeps at s s' (e ∷ events) h c = run_by at s s' e events (is_lawful p f s e) refl h (run_keeps (at + 1) (pair_after p q f s e) s' events) c

@@ -127,7 +127,7 @@ pair_step p q old s =
     if at_new_load old (head_in s.target) then lowered_at_call (record s { target = after_step s.target })
     else both_stepped s (step_seen q s.target) (step_seen p s.source) (after_step s.target) (after_step s.source)
 
--- the function is entered and not over, and the target waits for neither a value nor a fence
+-- the function is started and not over, and the target waits for neither a value nor a fence
 abbrev pub goes_on : Pair → Bool
 goes_on s = is_inside s.stage && wants_step (wants_of s.target)
 
@@ -173,10 +173,10 @@ is_lawful p f s (Gain x vt vs) = may_get p s x && is_below vt vs
 is_lawful p f s (See x vt) = may_get p s x
 is_lawful p f s Pass = is_inside s.stage && wants_fence (wants_of s.target)
 
-abbrev pub entered : (p q : Program) → ℕ → Pair → Stage → Pair
-entered p q f s (AtEntry ts ss) = lowered_at_call (record s { stage = Inside; target = with_frame s.target (called q f ts); source = with_frame s.source (called p f ss) })
-entered p q f s Inside = s
-entered p q f s (Over end) = s
+abbrev pub started : (p q : Program) → ℕ → Pair → Stage → Pair
+started p q f s (AtEntry ts ss) = lowered_at_call (record s { stage = Inside; target = with_frame s.target (called q f ts); source = with_frame s.source (called p f ss) })
+started p q f s Inside = s
+started p q f s (Over end) = s
 
 abbrev pub given : Val → Val → Pair → Stage → Pair
 given vt vs s (AtEntry ts ss) = record s { stage = AtEntry (ts ++ vt ∷ []) (ss ++ vs ∷ []) }
@@ -187,15 +187,15 @@ given vt vs s (Over end) = s
 abbrev pub bared : Seq → ℕ → Seq
 bared s x = with_place s x Bare (place_in s.places x).value
 
-abbrev pub after_event : (p q : Program) → ℕ → Pair → EnvEvent → Pair
-after_event p q f s Enter = entered p q f s s.stage
-after_event p q f s (Run n) = steps p q (register_count p f) n s
-after_event p q f s (Value vt vs) = given vt vs s s.stage
-after_event p q f s (Take x) = record s { target = bared s.target x; source = bared s.source x }
-after_event p q f s (Hide x) = record s { source = bared s.source x }
-after_event p q f s (Gain x vt vs) = record s { target = with_place s.target x Shared vt; source = with_place s.source x Shared vs }
-after_event p q f s (See x vt) = record s { target = with_place s.target x Shared vt }
-after_event p q f s Pass = both_stepped s (pass_seen s.target) (pass_seen s.source) (after_pass s.target) (after_pass s.source)
+abbrev pub pair_after : (p q : Program) → ℕ → Pair → EnvEvent → Pair
+pair_after p q f s Enter = started p q f s s.stage
+pair_after p q f s (Run n) = steps p q (register_count p f) n s
+pair_after p q f s (Value vt vs) = given vt vs s s.stage
+pair_after p q f s (Take x) = record s { target = bared s.target x; source = bared s.source x }
+pair_after p q f s (Hide x) = record s { source = bared s.source x }
+pair_after p q f s (Gain x vt vs) = record s { target = with_place s.target x Shared vt; source = with_place s.source x Shared vs }
+pair_after p q f s (See x vt) = record s { target = with_place s.target x Shared vt }
+pair_after p q f s Pass = both_stepped s (pass_seen s.target) (pass_seen s.source) (after_pass s.target) (after_pass s.source)
 
 -- ---- runs
 
@@ -211,7 +211,7 @@ pair_begun p q f = record { stage = AtEntry [] []; target = seq_begun q f []; so
 -- the same from a pair on, the first event having this place
 abbrev pub run_from : (p q : Program) → ℕ → ℕ → Pair → List EnvEvent → PairRun
 run_from p q f at s [] = Came s
-run_from p q f at s (e ∷ events) = if is_lawful p f s e then run_from p q f (at + 1) (after_event p q f s e) events else Unlawful at
+run_from p q f at s (e ∷ events) = if is_lawful p f s e then run_from p q f (at + 1) (pair_after p q f s e) events else Unlawful at
 
 abbrev pub pair_run : (p q : Program) → ℕ → List EnvEvent → PairRun
 pair_run p q f events = run_from p q f 0 (pair_begun p q f) events
