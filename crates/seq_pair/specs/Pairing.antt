@@ -4,10 +4,10 @@ use Rattle.values_undef.specs.declared.value.Val.{Val}
 use Rattle.il_syntax.specs.declared.program.Program.{Program}
 use Rattle.thread_core.specs.Programs.{IsProperProgram, code_of}
 use Rattle.seq_semantics.specs.Seq.{Seq}
-use Rattle.seq_semantics.specs.Held.{seq_in, IsOf}
+use Rattle.seq_semantics.specs.Held.{seq_in, IsSeqOf}
 use Rattle.seq_pair.specs.declared.event.EnvEvent.{EnvEvent}
 use Rattle.seq_pair.specs.declared.pairing.Pairing.{Pairing}
-use Rattle.seq_pair.specs.Pair.{Pair, AtEntry, register_count, parameter_count, is_lawful, after_event}
+use Rattle.seq_pair.specs.Pair.{Pair, AtEntry, register_count, parameter_count, is_lawful, pair_after}
 use Rattle.seq_pair.specs.Laws.{IsInStep}
 
 -- the same in two programs
@@ -29,7 +29,7 @@ abbrev pub IsAtBeginning : Program → Seq → Type 0
 IsAtBeginning p s = s.frame.continuation ≡ code_of p s.frame.function
 
 -- at the entry both stand at their beginnings, and were given as many values, no more than there are parameters
-pub record IsEntry (p q : Program) (f : ℕ) (ts ss : List Val) (t s : Seq) : Type 0 where
+pub record IsBeforeEnter (p q : Program) (f : ℕ) (ts ss : List Val) (t s : Seq) : Type 0 where
   pub same_many : length ss ≡ length ts
   pub few : length ts ≤ parameter_count p f
   pub target_begins : IsAtBeginning q t
@@ -37,11 +37,11 @@ pub record IsEntry (p q : Program) (f : ℕ) (ts ss : List Val) (t s : Seq) : Ty
 
 -- both are of their programs
 pub record IsPairOf (p q : Program) (f : ℕ) (h : Pairing) : Type 0 where
-  pub target : IsOf q h.target
-  pub source : IsOf p h.source
-  pub entry : (ts ss : List Val) → h.stage ≡ AtEntry ts ss → IsEntry p q f ts ss (seq_in q h.target) (seq_in p h.source)
+  pub target : IsSeqOf q h.target
+  pub source : IsSeqOf p h.source
+  pub entry : (ts ss : List Val) → h.stage ≡ AtEntry ts ss → IsBeforeEnter p q f ts ss (seq_in q h.target) (seq_in p h.source)
 
 -- the pair is in step, and so it is after each lawful event
 pub record IsLed (p q : Program) (f : ℕ) (s : Pair) : Type 0 where
   pub now : IsInStep (register_count p f) s
-  pub next : (e : EnvEvent) → is_lawful p f s e ≡ true → IsInStep (register_count p f) (after_event p q f s e)
+  pub next : (e : EnvEvent) → is_lawful p f s e ≡ true → IsInStep (register_count p f) (pair_after p q f s e)

@@ -1,6 +1,6 @@
 //! What is written down of a step.
 ghost use Rattle.std.specs.Prelude.{◌≡◌};
-ghost use Rattle.seq_pair.specs.Labels.{is_visible, is_failed};
+ghost use Rattle.seq_pair.specs.Labels.{is_label, is_failed};
 ghost use Rattle.seq_pair.specs.Pair.{stage_after, pair_end};
 
 use crate::stage::Stage;
@@ -8,8 +8,8 @@ use crate::trace::PairEnd;
 use seq_semantics::Seen;
 
 /// Others see it.
-pub fn is_visible(seen: &Seen) -> bool
-    ensures { result ≡ is_visible seen.now }
+pub fn is_label(seen: &Seen) -> bool
+    ensures { result ≡ is_label seen.now }
 {
     match seen {
         Seen::Silent | Seen::Plain => false,

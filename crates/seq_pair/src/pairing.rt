@@ -122,9 +122,7 @@ impl Pairing {
         requires pair { IsPairOf p.now q.now f self.now }
         ensures { result ≡ is_lawful p.now f (pair_in p.now q.now self.now) (EnvEvent.Hide x) }
     {
-        self.is_without_failure()
-            && (x as usize) < p.na.len()
-            && states::is_shared(&self.source, x)
+        self.is_without_failure() && (x as usize) < p.na.len() && states::is_shared(&self.source, x)
     }
 
     /// Others may be heard.

@@ -1,9 +1,9 @@
 //! What each event does to a pair.
-ghost use Rattle.std.specs.Prelude.{◌≡◌, ℕ, ◌≤◌, true, IfOk};
-ghost use Rattle.seq_semantics.specs.Held.{seq_in};
+ghost use Rattle.std.specs.Prelude.{◌≡◌, ℕ, ◌≤◌, ◌++◌, true, IfOk};
+ghost use Rattle.seq_semantics.specs.Held.{seq_in, IsSeqOf};
 ghost use Rattle.seq_semantics.specs.Seq.{head_in};
 ghost use Rattle.seq_pair.specs.Laws.{IsInStep};
-ghost use Rattle.seq_pair.specs.Pair.{is_lawful, after_event, at_call, goes_on, steps, pair_step, register_count, both_stepped, lowered_at_call, arrives, takes_value};
+ghost use Rattle.seq_pair.specs.Pair.{is_lawful, pair_after, at_call, goes_on, steps, pair_step, register_count, both_stepped, labels_after, lowered_at_call, arrives, may_get, takes_value};
 ghost use Rattle.seq_pair.specs.Pairing.{pair_in, ArePaired, IsPairOf, IsLed};
 
 use crate::event::EnvEvent;
@@ -30,7 +30,7 @@ impl Pairing {
         requires pair { IsPairOf p.now q.now f self.old }
         requires lawful { is_lawful p.now f (pair_in p.now q.now self.old) e.now ≡ true }
         requires led { IsLed p.now q.now f (pair_in p.now q.now self.old) }
-        ensures state { IfOk result (λ _. pair_in p.now q.now self.new ≡ after_event p.now q.now f (pair_in p.now q.now self.old) e.now) }
+        ensures state { IfOk result (λ _. pair_in p.now q.now self.new ≡ pair_after p.now q.now f (pair_in p.now q.now self.old) e.now) }
         ensures pair { IfOk result (λ _. IsPairOf p.now q.now f self.new) }
     {
         match *e {
@@ -62,8 +62,8 @@ impl Pairing {
         requires programs { ArePaired p.now q.now f }
         requires pair { IsPairOf p.now q.now f self.old }
         requires lawful { is_lawful p.now f (pair_in p.now q.now self.old) EnvEvent.Enter ≡ true }
-        requires next { IsInStep (register_count p.now f) (after_event p.now q.now f (pair_in p.now q.now self.old) EnvEvent.Enter) }
-        ensures state { IfOk result (λ _. pair_in p.now q.now self.new ≡ after_event p.now q.now f (pair_in p.now q.now self.old) EnvEvent.Enter) }
+        requires next { IsInStep (register_count p.now f) (pair_after p.now q.now f (pair_in p.now q.now self.old) EnvEvent.Enter) }
+        ensures state { IfOk result (λ _. pair_in p.now q.now self.new ≡ pair_after p.now q.now f (pair_in p.now q.now self.old) EnvEvent.Enter) }
         ensures pair { IfOk result (λ _. IsPairOf p.now q.now f self.new) }
     {
         if let Stage::AtEntry { targets, sources } = &self.stage {
@@ -113,13 +113,20 @@ impl Pairing {
     }
 
     /// Gives a parameter its value, or the value that is wanted.
-    fn give(&mut self, p: &Program, q: &Program, f: u32, target: Val, source: Val) -> Result<(), NoMemory>
+    fn give(
+        &mut self,
+        p: &Program,
+        q: &Program,
+        f: u32,
+        target: Val,
+        source: Val,
+    ) -> Result<(), NoMemory>
         requires programs { ArePaired p.now q.now f }
         requires pair { IsPairOf p.now q.now f self.old }
         requires takes { takes_value p.now f (pair_in p.now q.now self.old) ≡ true }
         requires now { IsInStep (register_count p.now f) (pair_in p.now q.now self.old) }
-        requires next { IsInStep (register_count p.now f) (after_event p.now q.now f (pair_in p.now q.now self.old) (EnvEvent.Value target source)) }
-        ensures state { IfOk result (λ _. pair_in p.now q.now self.new ≡ after_event p.now q.now f (pair_in p.now q.now self.old) (EnvEvent.Value target source)) }
+        requires next { IsInStep (register_count p.now f) (pair_after p.now q.now f (pair_in p.now q.now self.old) (EnvEvent.Value target source)) }
+        ensures state { IfOk result (λ _. pair_in p.now q.now self.new ≡ pair_after p.now q.now f (pair_in p.now q.now self.old) (EnvEvent.Value target source)) }
         ensures pair { IfOk result (λ _. IsPairOf p.now q.now f self.new) }
     {
         if let Stage::AtEntry { targets, sources } = &mut self.stage {
@@ -138,8 +145,8 @@ impl Pairing {
         requires pair { IsPairOf p.now q.now f self.old }
         requires lawful { is_lawful p.now f (pair_in p.now q.now self.old) EnvEvent.Pass ≡ true }
         requires now { IsInStep (register_count p.now f) (pair_in p.now q.now self.old) }
-        requires next { IsInStep (register_count p.now f) (after_event p.now q.now f (pair_in p.now q.now self.old) EnvEvent.Pass) }
-        ensures state { IfOk result (λ _. pair_in p.now q.now self.new ≡ after_event p.now q.now f (pair_in p.now q.now self.old) EnvEvent.Pass) }
+        requires next { IsInStep (register_count p.now f) (pair_after p.now q.now f (pair_in p.now q.now self.old) EnvEvent.Pass) }
+        ensures state { IfOk result (λ _. pair_in p.now q.now self.new ≡ pair_after p.now q.now f (pair_in p.now q.now self.old) EnvEvent.Pass) }
         ensures pair { IfOk result (λ _. IsPairOf p.now q.now f self.new) }
     {
         let target = self.target.pass(q);
@@ -148,10 +155,17 @@ impl Pairing {
     }
 
     /// Both have made a step, of which this was seen.
-    fn meet(&mut self, p: &Program, q: &Program, f: u32, target: Seen, source: Seen) -> Result<(), NoMemory>
+    fn meet(
+        &mut self,
+        p: &Program,
+        q: &Program,
+        f: u32,
+        target: Seen,
+        source: Seen,
+    ) -> Result<(), NoMemory>
         requires programs { ArePaired p.now q.now f }
-        requires target { IsOf q.now self.old.target }
-        requires source { IsOf p.now self.old.source }
+        requires target { IsSeqOf q.now self.old.target }
+        requires source { IsSeqOf p.now self.old.source }
         requires next { IsInStep (register_count p.now f) (both_stepped (pair_in p.now q.now self.old) target source (seq_in q.now self.old.target) (seq_in p.now self.old.source)) }
         ensures state { IfOk result (λ _. pair_in p.now q.now self.new ≡ both_stepped (pair_in p.now q.now self.old) target source (seq_in q.now self.old.target) (seq_in p.now self.old.source)) }
         ensures pair { IfOk result (λ _. IsPairOf p.now q.now f self.new) }
@@ -166,7 +180,7 @@ impl Pairing {
     fn write_down(&mut self, target: Seen, source: Seen) -> Result<(), NoMemory>
         ensures labels { IfOk result (λ _. self.new ≡ record self.old { labels = self.old.labels ++ labels_after target source }) }
     {
-        if !labels::is_failed(&source) && (labels::is_visible(&target) || labels::is_visible(&source)) {
+        if !labels::is_failed(&source) && (labels::is_label(&target) || labels::is_label(&source)) {
             self.labels.push(PairLabel { target, source })?;
         }
         Ok(())
@@ -191,7 +205,7 @@ impl Pairing {
         requires programs { ArePaired p.now q.now f }
         requires pair { IsPairOf p.now q.now f self.old }
         requires lawful { is_lawful p.now f (pair_in p.now q.now self.old) (EnvEvent.Take x) ≡ true }
-        ensures state { pair_in p.now q.now self.new ≡ after_event p.now q.now f (pair_in p.now q.now self.old) (EnvEvent.Take x) }
+        ensures state { pair_in p.now q.now self.new ≡ pair_after p.now q.now f (pair_in p.now q.now self.old) (EnvEvent.Take x) }
         ensures pair { IsPairOf p.now q.now f self.new }
     {
         self.target.take(x);
@@ -205,7 +219,7 @@ impl Pairing {
         requires programs { ArePaired p.now q.now f }
         requires pair { IsPairOf p.now q.now f self.old }
         requires lawful { is_lawful p.now f (pair_in p.now q.now self.old) (EnvEvent.Hide x) ≡ true }
-        ensures state { pair_in p.now q.now self.new ≡ after_event p.now q.now f (pair_in p.now q.now self.old) (EnvEvent.Hide x) }
+        ensures state { pair_in p.now q.now self.new ≡ pair_after p.now q.now f (pair_in p.now q.now self.old) (EnvEvent.Hide x) }
         ensures pair { IsPairOf p.now q.now f self.new }
     {
         self.source.take(x);
@@ -217,7 +231,7 @@ impl Pairing {
         requires pair { IsPairOf p.now q.now f self.old }
         requires may_get { may_get p.now (pair_in p.now q.now self.old) x ≡ true }
         requires now { IsInStep (register_count p.now f) (pair_in p.now q.now self.old) }
-        ensures state { pair_in p.now q.now self.new ≡ after_event p.now q.now f (pair_in p.now q.now self.old) (EnvEvent.Gain x target source) }
+        ensures state { pair_in p.now q.now self.new ≡ pair_after p.now q.now f (pair_in p.now q.now self.old) (EnvEvent.Gain x target source) }
         ensures pair { IsPairOf p.now q.now f self.new }
     {
         self.target.gain(q, x, target);
@@ -229,7 +243,7 @@ impl Pairing {
         requires programs { ArePaired p.now q.now f }
         requires pair { IsPairOf p.now q.now f self.old }
         requires may_get { may_get p.now (pair_in p.now q.now self.old) x ≡ true }
-        ensures state { pair_in p.now q.now self.new ≡ after_event p.now q.now f (pair_in p.now q.now self.old) (EnvEvent.See x v) }
+        ensures state { pair_in p.now q.now self.new ≡ pair_after p.now q.now f (pair_in p.now q.now self.old) (EnvEvent.See x v) }
         ensures pair { IsPairOf p.now q.now f self.new }
     {
         self.target.gain(q, x, v);

@@ -3,7 +3,7 @@ ghost use Rattle.std.specs.Prelude.{◌≡◌, [], ◌<◌, ◌≤◌, ◌^◌, 
 ghost use Rattle.std.specs.List.{AllByRecursion};
 ghost use Rattle.thread_core.specs.Programs.{IsProperProgram};
 ghost use Rattle.seq_semantics.specs.Seq.{seq_begun};
-ghost use Rattle.seq_semantics.specs.Held.{seq_in, IsOf};
+ghost use Rattle.seq_semantics.specs.Held.{seq_in, IsSeqOf};
 ghost use Rattle.seq_pair.specs.Answers.{IsTraceOf, IsFaultOf};
 ghost use Rattle.seq_pair.specs.Labels.{LabelMatches};
 ghost use Rattle.seq_pair.specs.Laws.{IsAcceptedPair};
@@ -26,7 +26,7 @@ fn begun(alloc: Global, p: &Program, f: u32) -> Result<SeqState, NoMemory>
     requires there { f < length p.now.functions }
     requires few { parameter_count p.now f ≤ 8 }
     ensures state { IfOk result (λ s. seq_in p.now s ≡ seq_begun p.now f []) }
-    ensures program { IfOk result (λ s. IsOf p.now s) }
+    ensures program { IfOk result (λ s. IsSeqOf p.now s) }
 {
     let zeros = [Val::Def(0); 8];
     SeqState::start(alloc, p, f, &zeros[..functions::parameter_count(p, f)])

@@ -2,7 +2,7 @@
 ghost use Rattle.std.specs.Prelude.{◌≡◌, ◌<◌, length};
 ghost use Rattle.thread_core.specs.Programs.{IsProperProgram};
 ghost use Rattle.seq_semantics.specs.Seq.{head_in, wants_of, place_in, is_bare};
-ghost use Rattle.seq_semantics.specs.Held.{seq_in, IsOf};
+ghost use Rattle.seq_semantics.specs.Held.{seq_in, IsSeqOf};
 ghost use Rattle.seq_pair.specs.Pair.{at_new_load, at_call, hears, wants_step, wants_value, wants_fence, is_shared, is_owned};
 
 use il_syntax::{Program, Stmt};
@@ -11,7 +11,7 @@ use seq_semantics::{Perm, SeqState, Wants};
 /// The next statement is a load into a register that the source lacks.
 pub fn at_new_load(state: &SeqState, p: &Program, old: usize) -> bool
     requires proper { IsProperProgram p.now }
-    requires program { IsOf p.now state.now }
+    requires program { IsSeqOf p.now state.now }
     ensures { result ≡ at_new_load old (head_in (seq_in p.now state.now)) }
 {
     match state.head(p) {
@@ -23,7 +23,7 @@ pub fn at_new_load(state: &SeqState, p: &Program, old: usize) -> bool
 /// The next statement is a call.
 pub fn at_call(state: &SeqState, p: &Program) -> bool
     requires proper { IsProperProgram p.now }
-    requires program { IsOf p.now state.now }
+    requires program { IsSeqOf p.now state.now }
     ensures { result ≡ at_call (head_in (seq_in p.now state.now)) }
 {
     match state.head(p) {
@@ -35,7 +35,7 @@ pub fn at_call(state: &SeqState, p: &Program) -> bool
 /// Others may be heard at the next statement.
 pub fn hears(state: &SeqState, p: &Program) -> bool
     requires proper { IsProperProgram p.now }
-    requires program { IsOf p.now state.now }
+    requires program { IsSeqOf p.now state.now }
     ensures { result ≡ hears (head_in (seq_in p.now state.now)) }
 {
     match state.head(p) {
@@ -48,7 +48,7 @@ pub fn hears(state: &SeqState, p: &Program) -> bool
 /// It waits to make a step.
 pub fn wants_step(state: &SeqState, p: &Program) -> bool
     requires proper { IsProperProgram p.now }
-    requires program { IsOf p.now state.now }
+    requires program { IsSeqOf p.now state.now }
     ensures { result ≡ wants_step (wants_of (seq_in p.now state.now)) }
 {
     match state.wants(p) {
@@ -60,7 +60,7 @@ pub fn wants_step(state: &SeqState, p: &Program) -> bool
 /// It waits for a value.
 pub fn wants_value(state: &SeqState, p: &Program) -> bool
     requires proper { IsProperProgram p.now }
-    requires program { IsOf p.now state.now }
+    requires program { IsSeqOf p.now state.now }
     ensures { result ≡ wants_value (wants_of (seq_in p.now state.now)) }
 {
     match state.wants(p) {
@@ -72,7 +72,7 @@ pub fn wants_value(state: &SeqState, p: &Program) -> bool
 /// It waits to pass a fence.
 pub fn wants_fence(state: &SeqState, p: &Program) -> bool
     requires proper { IsProperProgram p.now }
-    requires program { IsOf p.now state.now }
+    requires program { IsSeqOf p.now state.now }
     ensures { result ≡ wants_fence (wants_of (seq_in p.now state.now)) }
 {
     match state.wants(p) {
