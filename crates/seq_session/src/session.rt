@@ -1,5 +1,5 @@
 //! From an input and a name to the answer.
-ghost use Rattle.std.specs.Prelude.{◌≡◌, ◌<◌, ◌≤◌, ◌+◌, ◌-◌, ◌^◌, length, IfOk, OnSome};
+ghost use Rattle.std.specs.Prelude.{◌≡◌, ◌<◌, ◌≤◌, ◌+◌, ◌-◌, ◌^◌, Some, None, length, IfOk, MatchOption};
 ghost use Rattle.il_syntax.specs.WellFormed.{IsWellFormed};
 ghost use Rattle.validator.specs.Shape.{SameShape};
 ghost use Rattle.seq_pair.specs.Laws.{IsAcceptedPair};
@@ -16,8 +16,8 @@ use values_undef::NoMemory;
 
 /// The number of the function of a name.
 fn function_number(functions: &[Function], name: &[u8]) -> Option<usize>
-    ensures number { result ≡ function_number functions.now name.now }
-    ensures there { OnSome result (λ f. f < length functions.now) }
+    ensures { MatchOption result (function_number functions.now name.now ≡ None)
+        (λ f. (function_number functions.now name.now ≡ Some f) × (f < length functions.now)) }
 {
     functions.iter().position(|f| f.name.as_slice() == name)
 }
