@@ -1,5 +1,5 @@
 -- Registers that are given their zeros, and locations that are given what they have.
-use Rattle.std.proofs.Common.{◌≡◌, ℕ, zero, suc, pos, List, [], ◌∷◌, take, replicate, set, get_or, refl, sym, ap, ◌∙◌, subst}
+use Rattle.std.proofs.Common.{◌≡◌, ℕ, zero, suc, pos, ◌+◌, List, [], ◌∷◌, take, replicate, set, get_or, refl, sym, ap, ◌∙◌, subst}
 use Rattle.std.specs.List.{AllByRecursion}
 use Rattle.std.proofs.lemmas.List.{set-get_or}
 use Rattle.values_undef.specs.declared.value.Val.{Val}

@@ -80,9 +80,9 @@ pub enum PairFault {
 }
 
 impl From<NoMemory> for PairFault {
-    fn from(_error: NoMemory) -> PairFault
-        ensures { result ≡ PairFault.NoMemory }
-    {
+    ghost from_gives = { λ _ e. e ≡ PairFault.NoMemory };
+
+    fn from(_: NoMemory) -> PairFault {
         PairFault::NoMemory
     }
 }
