@@ -110,9 +110,9 @@ module _ (p q : Program) (old : ℕ) where
       → IsInStep old (pair_step p q old s) → IsInStep k (both_stepped s tl sl t' s')
   step_of_both k s tl sl t' s' o e tle sle te se h =
       let same : pair_step p q old s ≡ both_stepped s tl sl t' s' =
-        both_step s e
-        ∙ ap (λ z. both_stepped s z (step_seen p s.source) (after_seq_step s.target) (after_seq_step s.source)) (sym tle)
-        ∙ ap (λ z. both_stepped s tl z (after_seq_step s.target) (after_seq_step s.source)) (sym sle)
-        ∙ ap (λ z. both_stepped s tl sl z (after_seq_step s.source)) (sym te)
-        ∙ ap (λ z. both_stepped s tl sl t' z) (sym se) in
+      both_step s e
+      ∙ ap (λ z. both_stepped s z (step_seen p s.source) (after_seq_step s.target) (after_seq_step s.source)) (sym tle)
+      ∙ ap (λ z. both_stepped s tl z (after_seq_step s.target) (after_seq_step s.source)) (sym sle)
+      ∙ ap (λ z. both_stepped s tl sl z (after_seq_step s.source)) (sym te)
+      ∙ ap (λ z. both_stepped s tl sl t' z) (sym se) in
       subst (λ z. IsInStep z (both_stepped s tl sl t' s')) o (subst (λ z. IsInStep old z) same h)

@@ -57,11 +57,11 @@ pair_kept p q f h k pair target source stage t s = record {
   target = target;
   source = source;
   entry = λ ts ss e.
-    let before = pair.entry ts ss (sym stage ∙ e) in
-    record {
-      same_many = before.same_many;
-      few = before.few;
-      target_begins = subst (λ (z : Frame). z.continuation ≡ code_of q z.function) (sym t) before.target_begins;
-      source_begins = subst (λ (z : Frame). z.continuation ≡ code_of p z.function) (sym s) before.source_begins;
-    };
+      let before = pair.entry ts ss (sym stage ∙ e) in
+      record {
+        same_many = before.same_many;
+        few = before.few;
+        target_begins = subst (λ (z : Frame). z.continuation ≡ code_of q z.function) (sym t) before.target_begins;
+        source_begins = subst (λ (z : Frame). z.continuation ≡ code_of p z.function) (sym s) before.source_begins;
+      };
 }
