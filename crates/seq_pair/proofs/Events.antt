@@ -31,7 +31,7 @@ use Rattle.seq_semantics.specs.declared.place.Place.{Place}
 use Rattle.seq_semantics.specs.declared.seen.Seen.{Seen}
 use Rattle.seq_semantics.specs.declared.seen.Wants.{Wants}
 use Rattle.seq_semantics.specs.declared.seen.Wants.TheVariants as want
-use Rattle.seq_semantics.specs.Seq.{Seq, place_in, with_place, with_frame, is_bare, loaded_from, lowered_if, head_in, wants_of, step_seen, after_step, after_step_at, value_seen, after_value, pass_seen, after_pass}
+use Rattle.seq_semantics.specs.Seq.{Seq, place_in, with_place, with_frame, is_bare, loaded_from, lowered_if, head_in, wants_of, step_seen, after_seq_step, after_seq_step_at, value_seen, after_value, pass_seen, after_pass}
 use Rattle.seq_pair.specs.declared.event.EnvEvent.{EnvEvent}
 use Rattle.seq_pair.specs.declared.event.EnvEvent.TheVariants.{Enter, Run, Value, Take, Hide, Gain, See, Pass}
 use Rattle.seq_pair.specs.declared.trace.PairEnd.TheVariants.{Same, SourceFailed, Cut}
@@ -193,10 +193,10 @@ module _ {p q : Program} {f : ℕ} (fn : PairedFunction p q f) where
     stepping_keeps o = lowering_keeps before_arrival (met_by o)
 
   -- an inserted load is a step of the target alone
-  insert_keeps : (path : List Visit) (t s : Seq) → Related fn path t s → at_new_load old (head_in t) ≡ true → PairedNext fn path t.frame s.frame → (more : List Visit) × Related fn more (after_step t) s
+  insert_keeps : (path : List Visit) (t s : Seq) → Related fn path t s → at_new_load old (head_in t) ≡ true → PairedNext fn path t.frame s.frame → (more : List Visit) × Related fn more (after_seq_step t) s
   insert_keeps path t s rel e (both_end et es settled) = absurd (false≢true (sym (ap (at_new_load old) et) ∙ e))
   insert_keeps path t s rel e (inserts v r x et ev new few settled stays gives_target) =
-      (one_more fn path v, subst (λ o. Related fn (one_more fn path v) (after_step_at t o) s) (sym et) (insert_on fn path t s rel v r x et ev few settled stays gives_target))
+      (one_more fn path v, subst (λ o. Related fn (one_more fn path v) (after_seq_step_at t o) s) (sym et) (insert_on fn path t s rel v r x et ev few settled stays gives_target))
   insert_keeps path t s rel e (turns v r x a et es ev l known stays gives_paired) = absurd (false≢true (sym (ap (at_new_load old) et) ∙ e))
   insert_keeps path t s rel e (removes v x a et es ev below pends others frames) = absurd (false≢true (sym (ap (at_new_load old) et) ∙ e))
   insert_keeps path t s rel e (same v h et es ev proper n) = absurd (false≢true (sym (proper_old p old h proper) ∙ sym (ap (at_new_load old) et) ∙ e))
@@ -205,14 +205,14 @@ module _ {p q : Program} {f : ℕ} (fn : PairedFunction p q f) where
   inside s e h = subst (λ stage. Stands fn stage s.target s.source) e h.stands
 
   pair_step_by : (s : Pair) (b : Bool) → at_new_load old (head_in s.target) ≡ b → PairRelated fn s → s.stage ≡ Inside → wants_of s.target ≡ want.Step
-      → PairRelated fn (cond b (lowered_at_call (record s { target = after_step s.target })) (both_stepped s (step_seen q s.target) (step_seen p s.source) (after_step s.target) (after_step s.source)))
+      → PairRelated fn (cond b (lowered_at_call (record s { target = after_seq_step s.target })) (both_stepped s (step_seen q s.target) (step_seen p s.source) (after_seq_step s.target) (after_seq_step s.source)))
   pair_step_by s true e h i w =
       let r = inside s i h in
       let n = insert_keeps r.0 s.target s.source r.1 e (pairs_go_on p q f fn r.0 s.target.frame s.source.frame r.1.frames) in
-      lowering_keeps (record s { target = after_step s.target }) (record { labels = h.labels; stands = subst (λ stage. Stands fn stage (after_step s.target) s.source) (sym i) n })
+      lowering_keeps (record s { target = after_seq_step s.target }) (record { labels = h.labels; stands = subst (λ stage. Stands fn stage (after_seq_step s.target) s.source) (sym i) n })
   pair_step_by s false e h i w =
       let r = inside s i h in
-      stepping_keeps s h.labels (step_seen q s.target) (step_seen p s.source) (after_step s.target) (after_step s.source) (step_on fn r.0 s.target s.source r.1 w e)
+      stepping_keeps s h.labels (step_seen q s.target) (step_seen p s.source) (after_seq_step s.target) (after_seq_step s.source) (step_on fn r.0 s.target s.source r.1 w e)
 
   pair_step_keeps : (s : Pair) → PairRelated fn s → s.stage ≡ Inside → wants_of s.target ≡ want.Step → PairRelated fn (pair_step p q old s)
   pair_step_keeps s h i w = pair_step_by s (at_new_load old (head_in s.target)) refl h i w

@@ -40,7 +40,7 @@ use Rattle.seq_semantics.specs.declared.seen.Seen.{Seen}
 use Rattle.seq_semantics.specs.declared.seen.Seen.TheVariants as seen
 use Rattle.seq_semantics.specs.declared.seen.Wants.{Wants}
 use Rattle.seq_semantics.specs.declared.seen.Wants.TheVariants as want
-use Rattle.seq_semantics.specs.Seq.{Seq, place_in, with_place, with_frame, is_bare, loaded_from, lowered_if, head_in, wanted_at, wanted_by, wants_of, stored_to, seen_by_next, after_next, step_seen_at, after_step_at, step_seen, after_step}
+use Rattle.seq_semantics.specs.Seq.{Seq, place_in, with_place, with_frame, is_bare, loaded_from, lowered_if, head_in, wanted_at, wanted_by, wants_of, stored_to, seen_by_next, after_next, step_seen_at, after_seq_step_at, step_seen, after_seq_step}
 use Rattle.seq_pair.specs.declared.trace.PairEnd.TheVariants.{Same}
 use Rattle.seq_pair.specs.Labels.{is_failed, writes_below, fences_alike, prints_alike, ends_below, LabelMatches, labelled}
 use Rattle.seq_pair.specs.Pair.{Inside, Over, stage_of, at_new_load}
@@ -162,10 +162,10 @@ module _ {p q : Program} {f : ℕ} (fn : PairedFunction p q f) (path : List Visi
 
   -- the next heads are these
   module _ (ht hs : Option Head) (et : head_in t ≡ ht) (es : head_in s ≡ hs) where
-    step_at : Outcome fn (step_seen_at q t ht) (step_seen_at p s hs) (after_step_at t ht) (after_step_at s hs) → Outcome fn (step_seen q t) (step_seen p s) (after_step t) (after_step s)
+    step_at : Outcome fn (step_seen_at q t ht) (step_seen_at p s hs) (after_seq_step_at t ht) (after_seq_step_at s hs) → Outcome fn (step_seen q t) (step_seen p s) (after_seq_step t) (after_seq_step s)
     step_at o =
-        subst (λ h. Outcome fn (step_seen_at q t h) (step_seen p s) (after_step_at t h) (after_step s)) (sym et)
-        (subst (λ h. Outcome fn (step_seen_at q t ht) (step_seen_at p s h) (after_step_at t ht) (after_step_at s h)) (sym es) o)
+        subst (λ h. Outcome fn (step_seen_at q t h) (step_seen p s) (after_seq_step_at t h) (after_seq_step s)) (sym et)
+        (subst (λ h. Outcome fn (step_seen_at q t ht) (step_seen_at p s h) (after_seq_step_at t ht) (after_seq_step_at s h)) (sym es) o)
 
   -- the facts, before a statement of the merged code that hears and clears what the target's does
   pub facts_at : (v : Visit) (h : Head) → head_in t ≡ Some h → ((l : Level) → owed (Some v.head) l ≡ owed (Some h) l) → FactsHold path (Some v.head) t.frame.registers (loaded_at s) (IsOwned s)
@@ -284,26 +284,26 @@ module _ {p q : Program} {f : ℕ} (fn : PairedFunction p q f) (path : List Visi
     stay_here : {ts' : List Val} → FactsStay h t.frame.registers ts' (loaded_at s) (loaded_at s) (IsOwned s) (IsOwned s) → FactsStay v.head t.frame.registers ts' (loaded_at s) (loaded_at s) (IsOwned s) (IsOwned s)
     stay_here {ts'} = subst (λ g. FactsStay g t.frame.registers ts' (loaded_at s) (loaded_at s) (IsOwned s) (IsOwned s)) (sym ev)
 
-    silent_on : next_at t.frame.registers 1 h ≡ next.Silent → next_at s.frame.registers 1 h ≡ next.Silent → PendingStays fn path v → FramesPaired fn (more v) (worked t.frame h) (worked s.frame h) → Outcome fn (step_seen_at q t (Some h)) (step_seen_at p s (Some h)) (after_step_at t (Some h)) (after_step_at s (Some h))
+    silent_on : next_at t.frame.registers 1 h ≡ next.Silent → next_at s.frame.registers 1 h ≡ next.Silent → PendingStays fn path v → FramesPaired fn (more v) (worked t.frame h) (worked s.frame h) → Outcome fn (step_seen_at q t (Some h)) (step_seen_at p s (Some h)) (after_seq_step_at t (Some h)) (after_seq_step_at s (Some h))
     silent_on nt ns stays frames =
-        subst (λ n. Outcome fn (seen_by_next t n) (step_seen_at p s (Some h)) (after_next t h n) (after_step_at s (Some h))) (sym nt)
+        subst (λ n. Outcome fn (seen_by_next t n) (step_seen_at p s (Some h)) (after_next t h n) (after_seq_step_at s (Some h))) (sym nt)
         (subst (λ n. Outcome fn seen.Silent (seen_by_next s n) (with_frame t (worked t.frame h)) (after_next s h n)) (sym ns)
         (out_on (more v) refl refl tt (same_memory v (worked t.frame h) (worked s.frame h) frames stays facts_here
         (stay_here (quiet h t.frame.registers (worked t.frame h).registers (loaded_at s) (IsOwned s) (store_is_no_silent t.frame.registers h nt) (load_is_no_silent t.frame.registers h nt) (worked_others t.frame h))))))
 
-    fails_on : (why : Cause) → next_at s.frame.registers 1 h ≡ next.Access (access.Fail why) → Outcome fn (step_seen_at q t (Some h)) (step_seen_at p s (Some h)) (after_step_at t (Some h)) (after_step_at s (Some h))
-    fails_on why ns = subst (λ n. Outcome fn (step_seen_at q t (Some h)) (seen_by_next s n) (after_step_at t (Some h)) (after_next s h n)) (sym ns) (out_failed refl refl)
+    fails_on : (why : Cause) → next_at s.frame.registers 1 h ≡ next.Access (access.Fail why) → Outcome fn (step_seen_at q t (Some h)) (step_seen_at p s (Some h)) (after_seq_step_at t (Some h)) (after_seq_step_at s (Some h))
+    fails_on why ns = subst (λ n. Outcome fn (step_seen_at q t (Some h)) (seen_by_next s n) (after_seq_step_at t (Some h)) (after_next s h n)) (sym ns) (out_failed refl refl)
 
   print_on : (v : Visit) (a : Atom) (n : ℤ) → head_in t ≡ Some (Print a) → v.head ≡ Print a → evaluated t.frame.registers a ≡ Def n → evaluated s.frame.registers a ≡ Def n → PendingStays fn path v → FramesPaired fn (more v) (passed t.frame true) (passed s.frame true)
-      → Outcome fn (step_seen_at q t (Some (Print a))) (step_seen_at p s (Some (Print a))) (after_step_at t (Some (Print a))) (after_step_at s (Some (Print a)))
+      → Outcome fn (step_seen_at q t (Some (Print a))) (step_seen_at p s (Some (Print a))) (after_seq_step_at t (Some (Print a))) (after_seq_step_at s (Some (Print a)))
   print_on v a n eh ev et es stays frames =
-      subst (λ b. Outcome fn (seen_by_next t (next_print b)) (step_seen_at p s (Some (Print a))) (after_next t (Print a) (next_print b)) (after_step_at s (Some (Print a)))) (sym et)
+      subst (λ b. Outcome fn (seen_by_next t (next_print b)) (step_seen_at p s (Some (Print a))) (after_next t (Print a) (next_print b)) (after_seq_step_at s (Some (Print a)))) (sym et)
       (subst (λ b. Outcome fn (seen.Print n) (seen_by_next s (next_print b)) (with_frame t (passed t.frame true)) (after_next s (Print a) (next_print b))) (sym es)
       (out_on (more v) refl refl (prints_alike, tt) (same_memory v (passed t.frame true) (passed s.frame true) frames stays (facts_at v (Print a) eh (λ l. ap (λ g. owed (Some g) l) ev))
       (subst (λ g. FactsStay g t.frame.registers t.frame.registers (loaded_at s) (loaded_at s) (IsOwned s) (IsOwned s)) (sym ev) (quiet (Print a) t.frame.registers t.frame.registers (loaded_at s) (IsOwned s) (λ x b e. cc) (λ r x e. cc) (λ b m. refl))))))
 
   write_on : (v : Visit) (order : Order) (y : ℕ) (a : Atom) → head_in t ≡ Some (AtomicStore order y a) → v.head ≡ AtomicStore order y a → IsBelow (evaluated t.frame.registers a) (evaluated s.frame.registers a) → PendingStays fn path v → FramesPaired fn (more v) (passed t.frame true) (passed s.frame true)
-      → Outcome fn (step_seen_at q t (Some (AtomicStore order y a))) (step_seen_at p s (Some (AtomicStore order y a))) (after_step_at t (Some (AtomicStore order y a))) (after_step_at s (Some (AtomicStore order y a)))
+      → Outcome fn (step_seen_at q t (Some (AtomicStore order y a))) (step_seen_at p s (Some (AtomicStore order y a))) (after_seq_step_at t (Some (AtomicStore order y a))) (after_seq_step_at s (Some (AtomicStore order y a)))
   write_on v order y a eh ev below stays frames =
       out_on (more v) refl refl (writes_below below, tt)
       (lowered_memory (is_release_order order) v (passed t.frame true) (passed s.frame true) frames stays (facts_at v (AtomicStore order y a) eh (λ l. ap (λ g. owed (Some g) l) ev))
@@ -322,7 +322,7 @@ module _ {p q : Program} {f : ℕ} (fn : PairedFunction p q f) (path : List Visi
   not_step : (h : Head) → wants_of t ≡ want.Step → head_in t ≡ Some h → wanted_at h ≡ want.Value → ⊥
   not_step h w e v = let g : want.Step ≡ want.Value = sym w ∙ wants_at h e ∙ v in cc
 
-  same_on : (v : Visit) (h : Head) → head_in t ≡ Some h → head_in s ≡ Some h → v.head ≡ h → wants_of t ≡ want.Step → SameNext fn path t.frame s.frame v h → Outcome fn (step_seen_at q t (Some h)) (step_seen_at p s (Some h)) (after_step_at t (Some h)) (after_step_at s (Some h))
+  same_on : (v : Visit) (h : Head) → head_in t ≡ Some h → head_in s ≡ Some h → v.head ≡ h → wants_of t ≡ want.Step → SameNext fn path t.frame s.frame v h → Outcome fn (step_seen_at q t (Some h)) (step_seen_at p s (Some h)) (after_seq_step_at t (Some h)) (after_seq_step_at s (Some h))
   same_on v h et es ev w (both_silent nt ns stays frames) = silent_on v h et es ev (nt 1) (ns 1) stays frames
   same_on v h et es ev w (source_fails why ns) = fails_on v h et es ev why (ns 1)
   same_on v h et es ev w (loads r x l settled stays gives_paired) =
@@ -339,7 +339,7 @@ module _ {p q : Program} {f : ℕ} (fn : PairedFunction p q f) (path : List Visi
   same_on v h et es ev w (prints a n pt ps stays frames) = print_on v a n et ev pt ps stays frames
   same_on v h et es ev w (calls r g args below settled stays gives_paired) = absurd (not_step (Call r g args) w et refl)
 
-  step_by : PairedNext fn path t.frame s.frame → wants_of t ≡ want.Step → at_new_load (old_registers fn) (head_in t) ≡ false → Outcome fn (step_seen q t) (step_seen p s) (after_step t) (after_step s)
+  step_by : PairedNext fn path t.frame s.frame → wants_of t ≡ want.Step → at_new_load (old_registers fn) (head_in t) ≡ false → Outcome fn (step_seen q t) (step_seen p s) (after_seq_step t) (after_seq_step s)
   step_by (both_end et es settled) w n = step_at None None et es (out_ended refl refl (ends_below (results_are_below p q f fn path t.frame s.frame rel.frames), tt) refl refl)
   step_by (inserts v r x et ev new few settled stays gives_target) w n = absurd (false≢true (sym n ∙ ap (at_new_load (old_registers fn)) et ∙ le-leb (old_registers fn) r new))
   step_by (turns v r x e et es ev l known stays gives_paired) w n =
@@ -353,5 +353,5 @@ module _ {p q : Program} {f : ℕ} (fn : PairedFunction p q f) (path : List Visi
   step_by (same v h et es ev proper n) w m = step_at (Some h) (Some h) et es (same_on v h et es ev w n)
 
   -- Both make a step.
-  pub step_on : wants_of t ≡ want.Step → at_new_load (old_registers fn) (head_in t) ≡ false → Outcome fn (step_seen q t) (step_seen p s) (after_step t) (after_step s)
+  pub step_on : wants_of t ≡ want.Step → at_new_load (old_registers fn) (head_in t) ≡ false → Outcome fn (step_seen q t) (step_seen p s) (after_seq_step t) (after_seq_step s)
   step_on = step_by (pairs_go_on p q f fn path t.frame s.frame rel.frames)

@@ -3,3 +3,4 @@ pub mod Pair
 pub mod Answers
 pub mod Laws
 pub mod Related
+pub mod Pairing

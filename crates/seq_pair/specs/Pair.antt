@@ -16,7 +16,7 @@ use Rattle.seq_semantics.specs.declared.seen.Seen.{Seen}
 use Rattle.seq_semantics.specs.declared.seen.Seen.TheVariants as seen
 use Rattle.seq_semantics.specs.declared.seen.Wants.{Wants}
 use Rattle.seq_semantics.specs.declared.seen.Wants.TheVariants as want
-use Rattle.seq_semantics.specs.Seq.{Seq, place_in, with_place, with_frame, is_bare, lowered_if, head_in, wants_of, step_seen, after_step, value_seen, after_value, pass_seen, after_pass, seq_begun}
+use Rattle.seq_semantics.specs.Seq.{Seq, place_in, with_place, with_frame, is_bare, lowered_if, head_in, wants_of, step_seen, after_seq_step, value_seen, after_value, pass_seen, after_pass, seq_begun}
 pub use Rattle.seq_pair.specs.declared.stage.Stage.{Stage}
 pub use Rattle.seq_pair.specs.declared.stage.Stage.TheVariants.{AtEntry, Inside, Over}
 use Rattle.seq_pair.specs.declared.event.EnvEvent.{EnvEvent}
@@ -124,8 +124,8 @@ both_stepped s t_seen s_seen target source = lowered_at_call (record {
 -- one step of the target, and of the source but at an inserted load
 abbrev pub pair_step : (p q : Program) (old : ℕ) → Pair → Pair
 pair_step p q old s =
-    if at_new_load old (head_in s.target) then lowered_at_call (record s { target = after_step s.target })
-    else both_stepped s (step_seen q s.target) (step_seen p s.source) (after_step s.target) (after_step s.source)
+    if at_new_load old (head_in s.target) then lowered_at_call (record s { target = after_seq_step s.target })
+    else both_stepped s (step_seen q s.target) (step_seen p s.source) (after_seq_step s.target) (after_seq_step s.source)
 
 -- the function is started and not over, and the target waits for neither a value nor a fence
 abbrev pub goes_on : Pair → Bool

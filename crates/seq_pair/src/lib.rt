@@ -9,9 +9,16 @@
 #![tactic(auto)]
 
 mod event;
+mod functions;
+mod labels;
 pub mod laws;
+mod pairing;
+mod playing;
+mod run;
 mod stage;
+mod states;
 mod trace;
 
 pub use event::EnvEvent;
+pub use run::seq_pair;
 pub use trace::{PairEnd, PairFault, PairLabel, PairLabels, PairTrace};

@@ -1,6 +1,10 @@
 //! What target and source are seen to do together.
+ghost use Rattle.std.specs.Prelude.{◌≡◌, [], ◌∷◌, ◌++◌, IfOk};
+
 use seq_semantics::Seen;
+use std::alloc::Global;
 use std::marker::Model;
+use values_undef::NoMemory;
 
 /// What target and source are seen to do in one step. At least one of the two is seen by others.
 #[derive(Debug, Drop)]
@@ -25,6 +29,25 @@ impl Model for PairLabels {
     ghost Value = { List PairLabel };
 
     ghost view = { λ l. l.labels.items };
+}
+
+impl PairLabels {
+    /// No labels.
+    pub(crate) fn new(alloc: Global) -> PairLabels
+        ensures { result ≡ [] }
+    {
+        PairLabels {
+            labels: Vec::new(alloc),
+        }
+    }
+
+    /// One more label.
+    pub(crate) fn push(&mut self, label: PairLabel) -> Result<(), NoMemory>
+        ensures { IfOk result (λ _. self.new ≡ self.old ++ label ∷ []) }
+    {
+        self.labels.push(label)?;
+        Ok(())
+    }
 }
 
 /// How a pair of runs ends.
@@ -54,4 +77,12 @@ pub enum PairFault {
     Event { at: u32 },
     /// Want of memory.
     NoMemory,
+}
+
+impl From<NoMemory> for PairFault {
+    fn from(_error: NoMemory) -> PairFault
+        ensures { result ≡ PairFault.NoMemory }
+    {
+        PairFault::NoMemory
+    }
 }

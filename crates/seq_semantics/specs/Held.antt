@@ -9,17 +9,17 @@ use Rattle.il_paths.specs.Heads.{is_acquire}
 use Rattle.thread_core.specs.Programs.{code_of}
 use Rattle.seq_semantics.specs.Seq.{Seq, head_in}
 
-pub record Held : Type 0 where
+pub record HeldSeq : Type 0 where
   pub positions : Positions
   pub places : List Place
   pub course : Course
 
 -- the same in a program
-abbrev pub seq_in : Program → Held → Seq
+abbrev pub seq_in : Program → HeldSeq → Seq
 seq_in p s = record { frame = frame_in p s.positions.top; places = s.places; course = s.course }
 
 -- it is one of the program's, and has no caller
-pub record IsOf (p : Program) (s : Held) : Type 0 where
+pub record IsSeqOf (p : Program) (s : HeldSeq) : Type 0 where
   pub at : ArePositions p s.positions
   pub alone : s.positions.callers ≡ []
   pub places : length s.places ≡ length p.na

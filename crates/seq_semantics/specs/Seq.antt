@@ -118,17 +118,17 @@ access_seen s (access.Fail why) = seen.Failed false (Some why)
 access_seen s access.Finish = seen.Silent
 access_seen s access.Spend = seen.Silent
 
-abbrev pub after_access : Seq → Head → Access → Seq
-after_access s head (access.NaRead x) = with_frame s (told s.frame (target head) (Some (loaded_from (place_in s.places x))))
-after_access s head (access.NaWrite x v) = stored_to s x v (is_bare (place_in s.places x).permission)
-after_access s head (access.Read y order) = s
-after_access s head (access.Write y order v) = lowered_if (is_release_order order) (with_frame s (passed s.frame true))
-after_access s head (access.Update y order kind) = s
-after_access s head (access.Fence order) = lowered_if (releases order) (with_frame s (passed s.frame true))
-after_access s head (access.Print v) = with_frame s (passed s.frame true)
-after_access s head (access.Fail why) = over s HasFailed
-after_access s head access.Finish = s
-after_access s head access.Spend = s
+abbrev pub after_seq_access : Seq → Head → Access → Seq
+after_seq_access s head (access.NaRead x) = with_frame s (told s.frame (target head) (Some (loaded_from (place_in s.places x))))
+after_seq_access s head (access.NaWrite x v) = stored_to s x v (is_bare (place_in s.places x).permission)
+after_seq_access s head (access.Read y order) = s
+after_seq_access s head (access.Write y order v) = lowered_if (is_release_order order) (with_frame s (passed s.frame true))
+after_seq_access s head (access.Update y order kind) = s
+after_seq_access s head (access.Fence order) = lowered_if (releases order) (with_frame s (passed s.frame true))
+after_seq_access s head (access.Print v) = with_frame s (passed s.frame true)
+after_seq_access s head (access.Fail why) = over s HasFailed
+after_seq_access s head access.Finish = s
+after_seq_access s head access.Spend = s
 
 abbrev pub seen_by_next : Seq → Next → Seen
 seen_by_next s next.Silent = seen.Silent
@@ -136,24 +136,24 @@ seen_by_next s (next.Access a) = access_seen s a
 
 abbrev pub after_next : Seq → Head → Next → Seq
 after_next s head next.Silent = with_frame s (worked s.frame head)
-after_next s head (next.Access a) = after_access s head a
+after_next s head (next.Access a) = after_seq_access s head a
 
-abbrev pub next_in : Seq → Head → Next
-next_in s head = next_at s.frame.registers 1 head
+abbrev pub next_alone : Seq → Head → Next
+next_alone s head = next_at s.frame.registers 1 head
 
 abbrev pub step_seen_at : Program → Seq → Option Head → Seen
 step_seen_at p s None = seen.End (function_result p s.frame)
-step_seen_at p s (Some head) = seen_by_next s (next_in s head)
+step_seen_at p s (Some head) = seen_by_next s (next_alone s head)
 
-abbrev pub after_step_at : Seq → Option Head → Seq
-after_step_at s None = over s AtEnd
-after_step_at s (Some head) = after_next s head (next_in s head)
+abbrev pub after_seq_step_at : Seq → Option Head → Seq
+after_seq_step_at s None = over s AtEnd
+after_seq_step_at s (Some head) = after_next s head (next_alone s head)
 
 abbrev pub step_seen : Program → Seq → Seen
 step_seen p s = step_seen_at p s (head_in s)
 
-abbrev pub after_step : Seq → Seq
-after_step s = after_step_at s (head_in s)
+abbrev pub after_seq_step : Seq → Seq
+after_seq_step s = after_seq_step_at s (head_in s)
 
 -- A value is given, where one is wanted.
 
