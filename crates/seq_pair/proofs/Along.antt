@@ -8,7 +8,7 @@ use Rattle.seq_semantics.specs.declared.seen.Seen.{Seen}
 use Rattle.seq_semantics.specs.Seq.{Seq, head_in, step_seen, after_seq_step}
 use Rattle.seq_pair.specs.declared.event.EnvEvent.{EnvEvent}
 use Rattle.seq_pair.specs.declared.event.EnvEvent.TheVariants.{Run}
-use Rattle.seq_pair.specs.Pair.{Pair, is_inside, is_lawful, pair_after, goes_on, at_new_load, lowered_at_call, both_stepped, pair_step, steps, register_count, Came, Unlawful, PairRun, pair_begun, run_from, pair_run}
+use Rattle.seq_pair.specs.Pair.{Pair, is_inside, is_lawful, pair_after, goes_on, at_new_load, lowered_at_call, both_stepped, pair_step, steps, register_count, Came, Unlawful, pair_begun, run_from, pair_run}
 use Rattle.seq_pair.specs.Laws.{IsAcceptedPair, IsInStep, PairsStayInStep}
 use Rattle.seq_pair.specs.Pairing.{IsLed}
 

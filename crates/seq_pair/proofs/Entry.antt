@@ -10,7 +10,7 @@ use Rattle.seq_semantics.specs.Held.{seq_in, IsSeqOf}
 use Rattle.seq_pair.specs.declared.pairing.Pairing.{Pairing}
 use Rattle.seq_pair.specs.declared.trace.PairEnd.TheVariants.{Same, SourceFailed}
 use Rattle.seq_pair.specs.Labels.{is_failed}
-use Rattle.seq_pair.specs.Pair.{Stage, AtEntry, Inside, Over, stage_of, stage_after}
+use Rattle.seq_pair.specs.Pair.{AtEntry, Inside, Over, stage_of, stage_after}
 use Rattle.seq_pair.specs.Pairing.{IsPairOf}
 
 not_inside : (ts ss : List Val) → Inside ≡ AtEntry ts ss → ⊥

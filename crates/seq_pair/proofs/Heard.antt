@@ -1,10 +1,10 @@
 -- Where others may be heard.
-use Rattle.std.proofs.Common.{◌≡◌, ◌⊎◌, ℕ, Bool, true, false, ◌&&◌, ◌||◌, Option, Some, None, IsSomeAnd, refl, sym, ap, ◌∙◌, subst, inl, inr}
+use Rattle.std.proofs.Common.{◌≡◌, ◌⊎◌, ℕ, Bool, true, false, ◌&&◌, ◌||◌, Option, Some, None, IsSomeAnd, refl, subst, inl, inr}
 use Rattle.std.proofs.lemmas.Bool.{false≢true, and_parts}
 use Rattle.il_syntax.specs.declared.program.Program.{Program}
 use Rattle.il_syntax.specs.Statements.{Head}
 use Rattle.il_paths.specs.Heads.{is_acquire, is_call}
-use Rattle.seq_semantics.specs.Seq.{Seq, head_in, wants_of}
+use Rattle.seq_semantics.specs.Seq.{head_in, wants_of}
 use Rattle.seq_semantics.specs.Held.{seq_in, MayHear}
 use Rattle.seq_pair.specs.declared.pairing.Pairing.{Pairing}
 use Rattle.seq_pair.specs.Pair.{Pair, Stage, AtEntry, Inside, Over, is_at_entry, is_inside, wants_value, wants_fence, hears, may_hear, may_get}

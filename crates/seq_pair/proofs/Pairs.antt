@@ -1,9 +1,9 @@
 -- What an accepted pair is to the code.
-use Rattle.std.proofs.Common.{◌≡◌, ℕ, zero, suc, ◌<◌, ◌≤◌, List, [], ◌∷◌, length, Option, Some, None, Result, Err, IfErr, slice_get, refl, sym, ap, ◌∙◌, subst, arith}
+use Rattle.std.proofs.Common.{◌≡◌, ℕ, zero, suc, ◌<◌, List, [], ◌∷◌, length, Option, Some, None, Result, Err, IfErr, slice_get, sym, ap, ◌∙◌, subst, arith}
 use Rattle.il_syntax.specs.declared.program.Function.{Function}
 use Rattle.il_syntax.specs.declared.program.Location.{Location}
 use Rattle.il_syntax.specs.declared.program.Program.{Program}
-use Rattle.thread_core.specs.Programs.{function_at, IsProperProgram}
+use Rattle.thread_core.specs.Programs.{function_at}
 use Rattle.thread_core.proofs.Placing.{function_proper}
 use Rattle.thread_core.proofs.Callers.{well_formed_proper}
 use Rattle.validator.proofs.Callers.{accepted}

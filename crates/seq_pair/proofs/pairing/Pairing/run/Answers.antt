@@ -1,5 +1,5 @@
 use Rattle.std.proofs.Common.{◌≡◌, sym, ◌∙◌, subst, arith}
-use Rattle.seq_pair.specs.Pair.{Pair, pair_step, register_count}
+use Rattle.seq_pair.specs.Pair.{pair_step, register_count}
 use Rattle.seq_pair.specs.Laws.{IsInStep}
 use Rattle.seq_pair.specs.Pairing.{pair_in}
 use Rattle.seq_pair.proofs.Along.{goes_on_by, stays_in_step, next_in_step}
