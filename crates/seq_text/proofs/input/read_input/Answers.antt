@@ -12,5 +12,5 @@ pub returns-clause-answer : goal.returns-clause-answer
 returns-clause-answer c =
     let at = subst (λ word. DividesAtLine word c.args.input.now c.in-Some.source_text.now c.in-Some.rest.now) c.as_slice.ensures c.in-Some.ensures in
     let at' =
-        subst (λ word. DividesAtLine word c.in-Some.rest.now c.in-Some-divide_at_line.target_text.now c.in-Some-divide_at_line.events_text.now) c.as_slice-2.ensures c.in-Some-divide_at_line.ensures in
+    subst (λ word. DividesAtLine word c.in-Some.rest.now c.in-Some-divide_at_line.target_text.now c.in-Some-divide_at_line.events_text.now) c.as_slice-2.ensures c.in-Some-divide_at_line.ensures in
     c.texts.ensures.answer c.args.input.now (record { rest = c.in-Some.rest.now; at_target = at; at_events = at' })
