@@ -1,5 +1,5 @@
 -- clap takes exactly the words that mean a command, up to the ranges of values.
-use Rattle.std.proofs.Common.{◌≡◌, ◌∙◌, ◌⊎◌, inl, inr, ◌<◌, ◌^◌, ℕ, Bool, true, false, refl, sym, ap, subst, List, [], ◌∷◌, ap₂, get_or, map, codes, Option, Some, None, Result, Ok, Err, option_map, arith}
+use Rattle.std.proofs.Common.{◌≡◌, ◌∙◌, ◌⊎◌, ◌==◌, inl, inr, ◌<◌, ◌^◌, ℕ, Bool, true, false, refl, sym, ap, subst, List, [], ◌∷◌, ap₂, get_or, map, codes, Option, Some, None, Result, Ok, Err, option_map, arith}
 use Rattle.std.specs.Prelude.{find, IfOk, MatchResult}
 use Rattle.std.specs.List.{list_all, list_any}
 use Rattle.std.specs.Str.{bytes_eq}
@@ -7,6 +7,7 @@ use Rattle.std.specs.Option.{option_map_or}
 use Rattle.std.specs.Box.{box_value}
 use Rattle.std.proofs.lemmas.Fmt.{decimal_injective}
 use Rattle.std.proofs.lemmas.Slice.Eq.{bytes_eq-Decides}
+use Rattle.std.proofs.lemmas.Bool.Decides.{nat_tests}
 use Rattle.clap.specs.Walk.{Row}
 use Rattle.clap.specs.Matches.{subcommand_name_of}
 use Rattle.clap.specs.Simple.{App, HasMatchesOf, built, is_simple, subcommand_of, subcommand_rows, subcommand_rows_of}
@@ -17,14 +18,15 @@ use Rattle.clap.specs.declared.error.Error.{Error}
 use Rattle.clap.specs.declared.error.kind.ErrorKind.TheVariants as kind
 use Rattle.clap.specs.declared.parser.matches.ArgMatches.{ArgMatches}
 use Rattle.clap.specs.declared.parser.matches.ArgMatches.TheViews.{out-ArgMatches, out-SubCommand}
+use Rattle.il_syntax.specs.Name.{is_letter, is_word}
 use Rattle.words.specs.Commands.{commands}
 use Rattle.words.specs.Reading.{ReadsCommand}
-use Rattle.words.specs.Meaning.{ListsNumbers, Means, GivesValues, GivesDraws, GivesNumber, GivesNumbers, IsFormOf, SetsNumber, form_word, name_of, options_of}
+use Rattle.words.specs.Meaning.{ListsNumbers, Means, GivesValues, GivesDraws, GivesNumber, GivesNumbers, IsFormOf, SetsNumber, SetsWord, form_word, name_of, options_of}
 use Rattle.words.specs.Options.{Options, AllowsSettings, is_option, value_of}
 use Rattle.words.specs.Program.{clap_program, row_of}
 use Rattle.words.specs.Spelling.{Setting, WordText}
 use Rattle.words.specs.declared.command.Command.{Command}
-use Rattle.words.specs.declared.command.Command.TheVariants.{Check, Gen, Opt, Replay, Run, Validate, Walk}
+use Rattle.words.specs.declared.command.Command.TheVariants.{Check, Gen, Opt, Replay, Run, Seq, Validate, Walk}
 use Rattle.words.specs.declared.command.Drawing.{Drawing}
 use Rattle.words.specs.declared.command.Drawing.TheVariants.{Seed, Picks}
 use Rattle.words.specs.declared.command.Form.{Form}
@@ -124,12 +126,39 @@ plain_form : (f : Form) (value : Option WordText) (text : WordText) → IsFormOf
 plain_form f None text a e = absurd cc
 plain_form f (Some t) text a e = let same : t ≡ text = cc in subst IsPlain (sym a ∙ same) (plain_form_word f)
 
+-- a word of the language begins with no hyphen
+letter_no_hyphen : (b : ℕ) → is_letter b ≡ true → (b == 45) ≡ false
+letter_no_hyphen b letter = go (b == 45) refl
+  where
+    go : (t : Bool) → (b == 45) ≡ t → t ≡ false
+    go true e =
+        let same : b ≡ 45 = grind (arith, nat_tests) in
+        let bad : true ≡ false = sym letter ∙ ap is_letter same in absurd cc
+    go false e = refl
+
+plain_text : (text : WordText) → is_word text ≡ true → IsPlain text
+plain_text [] h = absurd cc
+plain_text (b ∷ bs) h = rw (letter_no_hyphen b (letter (is_letter b) refl)) refl
+  where
+    letter : (t : Bool) → is_letter b ≡ t → t ≡ true
+    letter true e = refl
+    letter false e = absurd (let bad : false ≡ true = rw e at h in cc)
+
+plain_word : (word : WordText) (value : Option WordText) (text : WordText) → SetsWord value word → value ≡ Some text → IsPlain text
+plain_word word None text a e = absurd a
+plain_word word (Some t) text a e = let same : t ≡ text = cc in subst IsPlain same (plain_text t a.1)
+
+one_word : (word word' : WordText) (value : Option WordText) → SetsWord value word → SetsWord value word' → word ≡ word'
+one_word word word' None a b = absurd a
+one_word word word' (Some text) a b = a.0 ∙ sym b.0
+
 -- ---- commands
 
 command_found : (c : Command) → find (λ p. bytes_eq p.0 (name_of c)) commands ≡ Some (name_of c, options_of c)
 command_found Check = refl
 command_found Opt = refl
 command_found Validate = refl
+command_found (Seq function) = refl
 command_found (Walk order draws steps) = refl
 command_found (Run seed steps) = refl
 command_found Replay = refl
@@ -139,6 +168,7 @@ command_named : (c : Command) → list_all is_named (options_of c) ≡ true
 command_named Check = refl
 command_named Opt = refl
 command_named Validate = refl
+command_named (Seq function) = refl
 command_named (Walk order draws steps) = refl
 command_named (Run seed steps) = refl
 command_named Replay = refl
@@ -192,6 +222,11 @@ plain_settings : (c : Command) (os : List Setting) → GivesValues os c → Plai
 plain_settings Check os s name value option is = absurd cc
 plain_settings Opt os s name value option is = absurd cc
 plain_settings Validate os s name value option is = absurd cc
+plain_settings (Seq function) os s name value option is = first (option_cases (codes "function", true) [] name option)
+  where
+    first : (codes "function" ≡ name) ⊎ (is_option [] name ≡ true) → IsPlain value
+    first (inl same) = plain_word function (value_of (codes "function") os) value s (ap (λ n. value_of n os) same ∙ is)
+    first (inr none) = absurd cc
 plain_settings (Walk order draws steps) os s name value option is = first (option_cases (codes "order", false) ((codes "picks", false) ∷ ((codes "seed", false) ∷ ((codes "steps", false) ∷ []))) name option)
   where
     fourth : (codes "steps" ≡ name) ⊎ (is_option [] name ≡ true) → IsPlain value
@@ -242,6 +277,9 @@ one_command os Check Check same s t = refl
 one_command os Opt Opt same s t = refl
 one_command os Validate Validate same s t = refl
 one_command os Replay Replay same s t = refl
+one_command os (Seq function) (Seq function') same s t =
+    let functions : function ≡ function' = one_word function function' (value_of (codes "function") os) s t in
+    cc
 one_command os (Walk order draws steps) (Walk order' draws' steps') same s t =
     let orders : order ≡ order' = one_list 15 (value_of (codes "order") os) order order' (omega arith) s.0 t.0 in
     let drawings : draws ≡ draws' = one_draws os draws draws' s.1 t.1 in
@@ -282,6 +320,7 @@ name_no_dash : (c : Command) → IsNoDash (name_of c)
 name_no_dash Check = refl
 name_no_dash Opt = refl
 name_no_dash Validate = refl
+name_no_dash (Seq function) = refl
 name_no_dash (Walk order draws steps) = refl
 name_no_dash (Run seed steps) = refl
 name_no_dash Replay = refl

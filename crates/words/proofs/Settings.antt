@@ -6,7 +6,7 @@ use Rattle.clap.specs.Walk.{first_of, rows_of}
 use Rattle.clap.specs.declared.parser.matches.Found.{Found}
 use Rattle.clap.proofs.WalkLemmas.{first_value-rows}
 use Rattle.words.specs.Numbers.{IsNumber}
-use Rattle.words.specs.Meaning.{GivesNumber, IsFormOf, SetsNumber}
+use Rattle.words.specs.Meaning.{GivesNumber, IsFormOf, IsWordOf, SetsNumber, SetsWord}
 use Rattle.words.specs.Options.{value_of}
 use Rattle.words.specs.Program.{row_of}
 use Rattle.words.specs.Spelling.{Setting, WordText}
@@ -35,6 +35,14 @@ needed_set low high text value r same h = subst (λ v. MatchResult r (SetsNumber
 
 pub needed_left : (low high : ℕ) (value : Option WordText) → None ≡ value → (k : ℕ) → SetsNumber low high value k → ⊥
 needed_left low high value same = subst (λ v. (k : ℕ) → SetsNumber low high v k → ⊥) same (λ k h. h)
+
+-- a word that must be set
+pub word_set : (text : WordText) (value : Option WordText) (r : Result WordText WordsFault) → Some text ≡ value → MatchResult r (IsWordOf text) (λ e. e ≡ Refused → (w : WordText) → IsWordOf text w → ⊥)
+    → MatchResult r (SetsWord value) (λ e. e ≡ Refused → (w : WordText) → SetsWord value w → ⊥)
+word_set text value r same h = subst (λ v. MatchResult r (SetsWord v) (λ e. e ≡ Refused → (w : WordText) → SetsWord v w → ⊥)) same h
+
+pub word_left : (value : Option WordText) → None ≡ value → (w : WordText) → SetsWord value w → ⊥
+word_left value same = subst (λ v. (w : WordText) → SetsWord v w → ⊥) same (λ w h. h)
 
 -- a form
 pub form_set : (word : WordText) (value : Option WordText) (r : Result Form WordsFault) → Some word ≡ value → MatchResult r (IsFormOf (Some word)) (λ e. (e ≡ Refused) × ((f : Form) → IsFormOf (Some word) f → ⊥))

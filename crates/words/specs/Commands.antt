@@ -12,6 +12,9 @@ opt_options = []
 abbrev pub validate_options : Options
 validate_options = []
 
+abbrev pub seq_options : Options
+seq_options = (codes "function", true) ∷ []
+
 abbrev pub walk_options : Options
 walk_options = (codes "order", false) ∷ ((codes "picks", false) ∷ ((codes "seed", false) ∷ ((codes "steps", false) ∷ [])))
 
@@ -30,8 +33,9 @@ commands =
     (codes "check", check_options)
     ∷ ((codes "opt", opt_options)
     ∷ ((codes "validate", validate_options)
+    ∷ ((codes "seq", seq_options)
     ∷ ((codes "walk", walk_options)
     ∷ ((codes "run", run_options)
     ∷ ((codes "replay", replay_options)
     ∷ ((codes "gen", gen_options)
-    ∷ []))))))
+    ∷ [])))))))

@@ -1,11 +1,12 @@
 -- The command that words mean.
-use Rattle.std.specs.Prelude.{◌≡◌, ℕ, List, [], ◌∷◌, Option, Some, None, codes}
-use Rattle.words.specs.Commands.{check_options, gen_options, opt_options, replay_options, run_options, validate_options, walk_options}
+use Rattle.std.specs.Prelude.{◌≡◌, ℕ, true, List, [], ◌∷◌, Option, Some, None, codes}
+use Rattle.il_syntax.specs.Name.{is_word}
+use Rattle.words.specs.Commands.{check_options, gen_options, opt_options, replay_options, run_options, seq_options, validate_options, walk_options}
 use Rattle.words.specs.Numbers.{IsNumber, AreNumbers}
 use Rattle.words.specs.Options.{AllowsSettings, Options, value_of}
 use Rattle.words.specs.Spelling.{Setting, SpellsSettings, WordText}
 use Rattle.words.specs.declared.command.Command.{Command}
-use Rattle.words.specs.declared.command.Command.TheVariants.{Check, Gen, Opt, Replay, Run, Validate, Walk}
+use Rattle.words.specs.declared.command.Command.TheVariants.{Check, Gen, Opt, Replay, Run, Seq, Validate, Walk}
 use Rattle.words.specs.declared.command.Drawing.{Drawing}
 use Rattle.words.specs.declared.command.Drawing.TheVariants.{Seed, Picks}
 use Rattle.words.specs.declared.command.Form.{Form}
@@ -15,6 +16,7 @@ abbrev pub name_of : Command → WordText
 name_of Check = codes "check"
 name_of Opt = codes "opt"
 name_of Validate = codes "validate"
+name_of (Seq function) = codes "seq"
 name_of (Walk order draws steps) = codes "walk"
 name_of (Run seed steps) = codes "run"
 name_of Replay = codes "replay"
@@ -24,6 +26,7 @@ abbrev pub options_of : Command → Options
 options_of Check = check_options
 options_of Opt = opt_options
 options_of Validate = validate_options
+options_of (Seq function) = seq_options
 options_of (Walk order draws steps) = walk_options
 options_of (Run seed steps) = run_options
 options_of Replay = replay_options
@@ -39,6 +42,15 @@ abbrev pub SetsNumber : ℕ → ℕ → Option WordText → ℕ → Type 0
 SetsNumber low high None n = ⊥
 SetsNumber low high (Some text) n = IsNumber low high text n
 
+-- the text is a word of the language, reserved or not and of any length
+abbrev pub IsWordOf : WordText → WordText → Type 0
+IsWordOf text word = (word ≡ text) × (is_word text ≡ true)
+
+-- the word that a value gives, of an option that is there
+abbrev pub SetsWord : Option WordText → WordText → Type 0
+SetsWord None word = ⊥
+SetsWord (Some text) word = IsWordOf text word
+
 -- the numbers that a value lists, each from 0 to high, or none where the option is left out
 abbrev pub GivesNumbers : ℕ → Option WordText → List ℕ → Type 0
 GivesNumbers high None ns = ns ≡ []
@@ -48,6 +60,10 @@ GivesNumbers high (Some text) ns = AreNumbers high text ns
 abbrev pub ListsNumbers : ℕ → Option WordText → List ℕ → Type 0
 ListsNumbers high None ns = ⊥
 ListsNumbers high (Some text) ns = AreNumbers high text ns
+
+-- a word of the language, and never left out
+abbrev pub GivesFunctionName : List Setting → WordText → Type 0
+GivesFunctionName settings function = SetsWord (value_of (codes "function") settings) function
 
 -- up to 2^64 - 1, and 0 where it is left out
 abbrev pub GivesSeed : List Setting → ℕ → Type 0
@@ -91,6 +107,7 @@ abbrev pub GivesValues : List Setting → Command → Type 0
 GivesValues settings Check = Unit {0}
 GivesValues settings Opt = Unit {0}
 GivesValues settings Validate = Unit {0}
+GivesValues settings (Seq function) = GivesFunctionName settings function
 GivesValues settings (Walk order draws steps) = GivesOrder settings order × GivesDraws settings draws × GivesSteps settings steps
 GivesValues settings (Run seed steps) = GivesSeed settings seed × GivesSteps settings steps
 GivesValues settings Replay = Unit {0}

@@ -2,6 +2,7 @@
 ghost use Rattle.std.specs.Prelude.{◌≡◌};
 ghost use Rattle.words.specs.declared.command.WordsFault.TheVariants.{NoMemory};
 
+use il_syntax::Name;
 use std::alloc::{AllocError, AllocFailed};
 use values_undef::Turns;
 
@@ -32,6 +33,10 @@ pub enum Command {
     Opt,
     /// Judge whether one program may stand in the place of another.
     Validate,
+    /// Play the functions of this name of two programs together, through the events of an environment.
+    Seq {
+        function: Name,
+    },
     /// Run a program on one thread: whose turn it is at first, where the choices come from, and
     /// how many steps each of its threads may make.
     Walk {

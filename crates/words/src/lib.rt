@@ -7,6 +7,7 @@
 
 mod command;
 mod laws;
+mod names;
 mod numbers;
 mod program;
 mod read;

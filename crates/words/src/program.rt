@@ -3,7 +3,7 @@ ghost use Rattle.std.specs.Prelude.{◌≡◌, List, [], ◌∷◌, Bool, true, 
 ghost use Rattle.clap.specs.Words.{app_of, rule_of};
 ghost use Rattle.clap.specs.declared.builder.command.Command.TheViews.{out-Command as fields_of};
 ghost use Rattle.words.specs.Program.{clap_rule, clap_command, clap_program};
-ghost use Rattle.words.specs.Commands.{commands, gen_options, run_options, walk_options};
+ghost use Rattle.words.specs.Commands.{commands, gen_options, run_options, seq_options, walk_options};
 
 use clap::{Arg, ArgAction, Command};
 use std::alloc::{AllocError, Global};
@@ -45,6 +45,13 @@ fn validate<'a>(alloc: Global) -> Command<'a>
     Command::new(alloc, "validate")
 }
 
+fn seq<'a>(alloc: Global) -> Result<Command<'a>, AllocError>
+    ensures app { IfOk result (λ c. app_of c ≡ clap_command (codes "seq", seq_options)) }
+    ensures local { IfOk result (λ c. (fields_of c).has_globals ≡ false) }
+{
+    Command::new(alloc, "seq").arg(required_option(alloc, "function"))
+}
+
 fn replay<'a>(alloc: Global) -> Command<'a>
     ensures app { app_of result ≡ clap_command (codes "replay", []) }
     ensures local { (fields_of result).has_globals ≡ false }
@@ -82,9 +89,9 @@ fn generating<'a>(alloc: Global) -> Result<Command<'a>, AllocError>
         .arg(option(alloc, "form"))
 }
 
-/// The program, with help and version switched off.
-pub(crate) fn program<'a>(alloc: Global) -> Result<Command<'a>, AllocError>
-    ensures { IfOk result (λ c. app_of c ≡ clap_program commands) }
+/// The program without its commands, with help and version switched off.
+fn bare<'a>(alloc: Global) -> Command<'a>
+    ensures { app_of result ≡ record (clap_program []) { top = record (clap_program []).top { is_leaf = true } } }
 {
     Command::new(alloc, "seqopt")
         .no_binary_name(true)
@@ -92,9 +99,17 @@ pub(crate) fn program<'a>(alloc: Global) -> Result<Command<'a>, AllocError>
         .disable_help_subcommand(true)
         .disable_version_flag(true)
         .subcommand_required(true)
+}
+
+/// The program with its commands.
+pub(crate) fn program<'a>(alloc: Global) -> Result<Command<'a>, AllocError>
+    ensures { IfOk result (λ c. app_of c ≡ clap_program commands) }
+{
+    bare(alloc)
         .subcommand(check(alloc))?
         .subcommand(opt(alloc))?
         .subcommand(validate(alloc))?
+        .subcommand(seq(alloc)?)?
         .subcommand(walk(alloc)?)?
         .subcommand(run(alloc)?)?
         .subcommand(replay(alloc))?

@@ -4,7 +4,7 @@ ghost use Rattle.std.specs.Str.{bytes_eq};
 ghost use Rattle.std.specs.Prelude.{◌≡◌, None, Some, ℕ, List, [], IfErr, IfOk, MatchResult, ◌↔◌, ◌≤◌, codes, map};
 ghost use Rattle.clap.specs.Words.{fault_of, found_of, kind_of, rows_of, subcommand_of, subcommand_rows_of};
 ghost use Rattle.words.specs.Commands.{commands};
-ghost use Rattle.words.specs.Meaning.{Means, GivesDraws, GivesForm, GivesNumber, GivesNumbers, GivesSeed, GivesSteps, IsFormOf, SetsNumber};
+ghost use Rattle.words.specs.Meaning.{Means, GivesDraws, GivesForm, GivesNumber, GivesNumbers, GivesSeed, GivesSteps, IsFormOf, SetsNumber, SetsWord};
 ghost use Rattle.words.specs.Numbers.{AreNumbers};
 ghost use Rattle.words.specs.Reading.{IsPicks, IsSeed, ListsPicks, ReadsCommand};
 ghost use Rattle.words.specs.declared.command.Drawing.{Drawing};
@@ -14,10 +14,12 @@ ghost use Rattle.words.specs.Program.{clap_program, row_of};
 ghost use Rattle.words.specs.Spelling.{Setting};
 
 use crate::command::{Command, Drawing, Form, WordsFault};
+use crate::names::word;
 use crate::numbers::{number_within, numbers_within};
 use crate::program::program;
 use clap::ArgMatches;
 use clap::error::ErrorKind;
+use il_syntax::Name;
 use std::alloc::{AllocError, Global};
 use values_undef::{Turns, Words};
 
@@ -87,6 +89,18 @@ fn required_number(
     match settings.get_str(name) {
         None => Err(WordsFault::Refused),
         Some(text) => number_within(text, low, high),
+    }
+}
+
+/// The word of the language that an option gives, which may not be left out.
+fn required_word(alloc: Global, settings: &ArgMatches, name: &str) -> Result<Name, WordsFault>
+    ensures { (os : List Setting) → rows_of (found_of settings.now) ≡ map row_of os
+        → MatchResult result (λ w. SetsWord (value_of name.now os) w)
+        (λ e. e ≡ WordsFault.Refused → (w : List ℕ) → SetsWord (value_of name.now os) w → ⊥) }
+{
+    match settings.get_str(name) {
+        None => Err(WordsFault::Refused),
+        Some(text) => word(alloc, text),
     }
 }
 
@@ -171,6 +185,13 @@ fn picked(alloc: Global, text: &str) -> Result<Drawing, WordsFault>
     Ok(Drawing::Picks { list })
 }
 
+fn seq(alloc: Global, settings: &ArgMatches) -> Result<Command, WordsFault>
+    ensures { (os : List Setting) → rows_of (found_of settings.now) ≡ map row_of os → ReadsCommand (codes "seq") os result }
+{
+    let function = required_word(alloc, settings, "function")?;
+    Ok(Command::Seq { function })
+}
+
 fn walk(alloc: Global, settings: &ArgMatches) -> Result<Command, WordsFault>
     ensures { (os : List Setting) → rows_of (found_of settings.now) ≡ map row_of os → ReadsCommand (codes "walk") os result }
 {
@@ -236,6 +257,7 @@ fn command(alloc: Global, name: &str, settings: &ArgMatches) -> Result<Command, 
         "check" => Ok(Command::Check),
         "opt" => Ok(Command::Opt),
         "validate" => Ok(Command::Validate),
+        "seq" => seq(alloc, settings),
         "walk" => walk(alloc, settings),
         "run" => run(settings),
         "replay" => Ok(Command::Replay),
@@ -259,6 +281,7 @@ fn has_dashes(words: &Words) -> bool
 /// no abbreviation. A number is `0` or digits with no leading zero; numbers are listed by commas.
 ///
 /// - `check`, `opt`, `validate`
+/// - `seq`: `--function` (required, a word of the language: a letter or `_`, then letters, digits and `_`)
 /// - `walk`: `--order` (1 to 4096 numbers from 0 to 15, else the empty list), `--picks` (1 to 4096
 ///   numbers from 0 to 4294967295), `--seed` (a number of 64 bits, else 0), `--steps` (1 to 16384,
 ///   else 1000)
