@@ -7,8 +7,8 @@ ghost use Rattle.pair_text.specs.Division.{LacksLine, DividesAtLine};
 
 use journal_text::newline;
 
-/// The first line without its newline, and what comes after it.
-fn first_line(text: &[u8]) -> Option<(&[u8], &[u8])>
+/// The first line without its newline, and what comes after it, where the text has a newline.
+pub fn first_line(text: &[u8]) -> Option<(&[u8], &[u8])>
     ensures { MatchOption result (has_no_newline text.now ≡ true) (λ x. (has_no_newline x.0.now ≡ true) × (text.now ≡ whole_line x.0.now ++ x.1.now)) }
 {
     match newline(text) {

@@ -22,7 +22,7 @@ pub struct ProgramPair {
 }
 
 /// How many lines end in a text.
-fn newlines(text: &[u8]) -> usize
+pub fn newlines(text: &[u8]) -> usize
     ensures { result ≡ newlines text.now }
 {
     text.iter().filter(|b| **b == b'\n').count()

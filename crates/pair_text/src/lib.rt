@@ -9,6 +9,6 @@ mod fault;
 mod input;
 pub mod laws;
 
-pub use division::divide_at_line;
+pub use division::{divide_at_line, first_line};
 pub use fault::{PairFault, PairRule};
-pub use input::{ProgramPair, read_pair, read_texts};
+pub use input::{ProgramPair, newlines, read_pair, read_texts};
