@@ -2,11 +2,12 @@
 _seqopt() {
   local word=${COMP_WORDS[COMP_CWORD]} options=
   if ((COMP_CWORD == 1)); then
-    options='check opt validate walk run replay gen'
+    options='check opt validate seq walk run replay gen'
   elif [[ ${COMP_WORDS[COMP_CWORD - 1]} == --form ]]; then
     options='text summary'
   elif [[ $word == -* ]]; then
     case ${COMP_WORDS[1]} in
+      seq) options='--function' ;;
       walk) options='--order --picks --seed --steps' ;;
       run) options='--seed --steps' ;;
       gen) options='--number --functions --form' ;;

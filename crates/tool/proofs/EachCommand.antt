@@ -1,13 +1,14 @@
 -- The facts of each command, and its condition where words mean it.
 use Rattle.std.proofs.Common.{ℕ, ◌≤◌, List, Option, Some, None, arith}
 use Rattle.words.specs.declared.command.Command.{Command}
-use Rattle.words.specs.declared.command.Command.TheVariants.{Check, Opt, Validate, Walk, Run, Replay, Gen}
+use Rattle.words.specs.declared.command.Command.TheVariants.{Check, Opt, Validate, Seq, Walk, Run, Replay, Gen}
 use Rattle.words.specs.Meaning.{GivesNumber, Means}
 use Rattle.tool.specs.Commands.{meaning_of, HasCondition}
 use Rattle.tool.proofs.CommandFacts.{CommandFacts}
 use Rattle.tool.proofs.CheckFacts.{check_facts}
 use Rattle.tool.proofs.OptFacts.{opt_facts}
 use Rattle.tool.proofs.ValidateFacts.{validate_facts}
+use Rattle.tool.proofs.SeqFacts.{seq_facts}
 use Rattle.tool.proofs.WalkFacts.{walk_facts}
 use Rattle.tool.proofs.RunFacts.{run_facts}
 use Rattle.tool.proofs.ReplayFacts.{replay_facts}
@@ -17,6 +18,7 @@ pub command_facts : (command : Command) → CommandFacts (meaning_of command)
 command_facts Check = check_facts
 command_facts Opt = opt_facts
 command_facts Validate = validate_facts
+command_facts (Seq function) = seq_facts function
 command_facts (Walk order draws steps) = walk_facts order draws steps
 command_facts (Run seed steps) = run_facts seed steps
 command_facts Replay = replay_facts
@@ -34,6 +36,7 @@ of_values : (command : Command) (words : List (List ℕ)) → Means words comman
 of_values Check words m = tt
 of_values Opt words m = tt
 of_values Validate words m = tt
+of_values (Seq function) words m = tt
 of_values (Walk order draws steps) words m = gives_budget _ steps m.values.2
 of_values (Run seed steps) words m = gives_budget _ steps m.values.1
 of_values Replay words m = tt

@@ -1,12 +1,13 @@
 -- The table of the commands: what each of them means.
 use Rattle.std.specs.Prelude.{ℕ, List, Option}
 use Rattle.words.specs.declared.command.Command.{Command}
-use Rattle.words.specs.declared.command.Command.TheVariants.{Check, Opt, Validate, Walk, Run, Replay, Gen}
+use Rattle.words.specs.declared.command.Command.TheVariants.{Check, Opt, Validate, Seq, Walk, Run, Replay, Gen}
 use Rattle.tool.specs.declared.status.Status.{Status}
 use Rattle.tool.specs.Meaning.{CommandMeaning}
 use Rattle.tool.specs.Check.{check_meaning}
 use Rattle.tool.specs.Opt.{opt_meaning}
 use Rattle.tool.specs.Validate.{validate_meaning}
+use Rattle.tool.specs.Seq.{seq_meaning}
 use Rattle.tool.specs.Walk.{walk_meaning}
 use Rattle.tool.specs.Run.{run_meaning}
 use Rattle.tool.specs.Replay.{replay_meaning}
@@ -16,6 +17,7 @@ abbrev pub meaning_of : Command → CommandMeaning
 meaning_of Check = check_meaning
 meaning_of Opt = opt_meaning
 meaning_of Validate = validate_meaning
+meaning_of (Seq function) = seq_meaning function
 meaning_of (Walk order draws steps) = walk_meaning order draws steps
 meaning_of (Run seed steps) = run_meaning seed steps
 meaning_of Replay = replay_meaning
@@ -34,6 +36,7 @@ abbrev pub WaitsForNothing : Command → Type 0
 WaitsForNothing Check = Unit {0}
 WaitsForNothing Opt = Unit {0}
 WaitsForNothing Validate = Unit {0}
+WaitsForNothing (Seq function) = Unit {0}
 WaitsForNothing (Walk order draws steps) = Unit {0}
 WaitsForNothing (Run seed steps) = ⊥
 WaitsForNothing Replay = Unit {0}

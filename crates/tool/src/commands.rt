@@ -11,6 +11,7 @@ mod optimising;
 mod replaying;
 mod reporting;
 pub(crate) mod running;
+mod sequencing;
 mod validating;
 mod walking;
 
@@ -31,7 +32,7 @@ pub(crate) fn limit(command: &Command) -> Option<u64>
         Command::Check | Command::Opt | Command::Walk { .. } | Command::Run { .. } => {
             Some(TEXT_LIMIT)
         }
-        Command::Validate => Some(4_194_304),
+        Command::Validate | Command::Seq { .. } => Some(4_194_304),
         Command::Replay => Some(134_217_728),
         Command::Gen { .. } => None,
     }
@@ -54,6 +55,7 @@ pub(crate) fn output_of<R: Threads + Sync>(
         Command::Check => checking::output(alloc, input),
         Command::Opt => optimising::output(alloc, rt, input),
         Command::Validate => validating::output(alloc, input),
+        Command::Seq { function } => sequencing::output(alloc, function.as_slice(), input),
         Command::Walk {
             order,
             draws,

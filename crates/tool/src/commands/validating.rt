@@ -83,14 +83,14 @@ fn first_refused(
 }
 
 /// The output for a function that is refused.
-fn function_refused(alloc: Global, found: RefusedFunction) -> Result<Output, NoMemory>
-    ensures { IfOk result (λ o. (o.bytes.items ≡ refused_function_line found.function found.site found.why) × (o.status ≡ status.No)) }
+pub(super) fn function_refused(
+    alloc: Global,
+    function: usize,
+    site: u32,
+    why: Fault,
+) -> Result<Output, NoMemory>
+    ensures { IfOk result (λ o. (o.bytes.items ≡ refused_function_line function site why) × (o.status ≡ status.No)) }
 {
-    let RefusedFunction {
-        function,
-        site,
-        why,
-    } = found;
     let text = format!(in alloc; "refused {function} {site} {}\n", fault_word(why))?;
     written(alloc, text.as_str(), Status::No)
 }
@@ -110,7 +110,11 @@ fn judged(alloc: Global, source: &Program, target: &Program) -> Result<Output, N
         target.functions.as_slice(),
     )? {
         None => written(alloc, "accepted\n", Status::Done),
-        Some(found) => function_refused(alloc, found),
+        Some(RefusedFunction {
+            function,
+            site,
+            why,
+        }) => function_refused(alloc, function, site, why),
     }
 }
 
