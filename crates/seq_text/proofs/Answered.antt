@@ -1,0 +1,85 @@
+-- The answers of the code are those of the input.
+use Rattle.std.proofs.Common.{◌≡◌, ◌+◌, ◌-◌, ◌^◌, ◌<◌, ◌≤◌, ℕ, zero, suc, sym, subst, ap, refl, List, [], ◌∷◌, length, Ok, Err, codes, ◌++◌, arith}
+use Rattle.std.specs.List.{All}
+use Rattle.std.proofs.lemmas.List.{length-append}
+use Rattle.il_syntax.specs.declared.program.Program.{Program}
+use Rattle.il_reader.specs.Refusal.{IfRefused}
+use Rattle.il_reader.specs.declared.fault.ParseFault.{ParseFault}
+use Rattle.il_reader.specs.declared.fault.ParseFault.TheVariants as parse_faults
+use Rattle.journal_text.specs.Line.{Text}
+use Rattle.journal_text.specs.Report.{whole_line}
+use Rattle.pair_text.specs.Division.{LacksLine, DividesAtLine, at_line, at_end}
+use Rattle.pair_text.specs.Refusals.{target_word}
+use Rattle.pair_text.specs.Reading.{SpellTexts, IsFirstOfTexts}
+use Rattle.seq_pair.specs.declared.event.EnvEvent.{EnvEvent}
+use Rattle.seq_text.specs.declared.fault.SeqRule.TheVariants.{T, E}
+use Rattle.seq_text.specs.declared.fault.SessionFault.{SessionFault}
+use Rattle.seq_text.specs.Event.{env_event_line, FitsEnvEvent}
+use Rattle.seq_text.specs.Events.{env_event_lines, HasEnvEvents, ReadsEnvEvents, finished, unfinished, AreEventsRefusedAfter}
+use Rattle.seq_text.specs.Refusals.{SeqRefusal, events_word, line_refusal, program_refusal, event_line_number, seq_refused, session_fault}
+use Rattle.seq_text.specs.Reading.{DividesSession, LacksSeparator, no_target, events_before, no_events, IsFirstSessionRefusal, undivided, of_programs, of_events, IsSessionAnswer}
+
+-- refusals
+
+module _ (input : Text) (fault : SessionFault) where
+  answered : (r : SeqRefusal) → IsFirstSessionRefusal input r → fault ≡ seq_refused r → IsSessionAnswer input (Err fault)
+  answered r first is = subst (λ e. IsSessionAnswer input (Err e)) (sym is) first
+
+  pub untargeted : LacksLine target_word input → fault ≡ seq_refused (line_refusal T 1) → IsSessionAnswer input (Err fault)
+  untargeted none is = answered (line_refusal T 1) (undivided (no_target none refl)) is
+
+  pub early_events : (source rest before after : Text) → DividesAtLine target_word input source rest → LacksLine events_word rest
+      → DividesAtLine events_word source before after → fault ≡ seq_refused (line_refusal T 1) → IsSessionAnswer input (Err fault)
+  early_events source rest before after at none early is = answered (line_refusal T 1) (undivided (events_before source rest before after at none early refl)) is
+
+  pub eventless : (source rest : Text) → DividesAtLine target_word input source rest → LacksLine events_word rest
+      → LacksLine events_word source → fault ≡ seq_refused (line_refusal E 1) → IsSessionAnswer input (Err fault)
+  eventless source rest at none early is = answered (line_refusal E 1) (undivided (no_events source rest at none early refl)) is
+
+  module _ (a b c : Text) (divided : DividesSession input a b c) where
+    of_parse : (f : ParseFault) → IfRefused f (λ r. IsFirstOfTexts a b r) → IsSessionAnswer input (Err (session_fault f))
+    of_parse (parse_faults.Refused rule line column) h = of_programs a b c (record { rule = rule; line = line; column = column }) divided h refl
+    of_parse parse_faults.NoMemory h = tt
+
+    pub programs_refused : (f : ParseFault) → IfRefused f (λ r. IsFirstOfTexts a b r) → fault ≡ session_fault f → IsSessionAnswer input (Err fault)
+    programs_refused f h is = subst (λ e. IsSessionAnswer input (Err e)) (sym is) (of_parse f h)
+
+    pub events_refused : (p q : Program) (lines line : ℕ) → SpellTexts a b p q → AreEventsRefusedAfter p c lines → line ≡ event_line_number a b 0 + lines
+        → fault ≡ seq_refused (line_refusal E line) → IsSessionAnswer input (Err fault)
+    events_refused p q lines line spelled refused at is =
+        answered (line_refusal E line) (of_events a b c p q lines divided spelled refused (ap (λ n. line_refusal E n) (omega (arith, at)))) is
+
+-- lengths
+
+-- the texts are shorter than the input by the lines between them
+shorter : (word text a b : Text) → DividesAtLine word text a b → length a + length word + length b ≤ length text
+shorter word text a b (at_line h plain is) = omega (arith, ap length is, length-append a (whole_line word ++ b), length-append (whole_line word) b, length-append word (codes "\n"))
+shorter word text a b (at_end h plain is none) = omega (arith, ap length is, length-append a word, ap length none)
+
+longer_line : (word text a b : Text) → DividesAtLine word text a b → 1 ≤ length b → length a + length word + 1 + length b ≤ length text
+longer_line word text a b (at_line h plain is) some = omega (arith, ap length is, length-append a (whole_line word ++ b), length-append (whole_line word) b, length-append word (codes "\n"))
+longer_line word text a b (at_end h plain is none) some = absurd (omega (arith, ap length none))
+
+pub parts_small : (input a rest b c : Text) → DividesAtLine target_word input a rest → DividesAtLine events_word rest b c → length input < 2 ^ 32 - 1
+    → length a + length b + length c < 2 ^ 32 - 14
+parts_small input a rest b c at at' small =
+    let inner = shorter events_word rest b c at' in
+    let outer = longer_line target_word input a rest at (omega arith) in
+    omega arith
+
+module _ (p : Program) where
+  -- an event has a line of its own
+  lines_long : (events : List EnvEvent) → length events ≤ length (env_event_lines p events)
+  lines_long [] = omega arith
+  lines_long (e ∷ es) =
+      omega (arith, lines_long es, length-append (whole_line (env_event_line p e)) (env_event_lines p es), length-append (env_event_line p e) (codes "\n"))
+
+  first_lines : (text : Text) (events : List EnvEvent) (rest : Text) → HasEnvEvents p text events rest → length events + length rest ≤ length text
+  first_lines text events rest h = omega (arith, ap length h.is, length-append (env_event_lines p events) rest, lines_long events)
+
+  pub read_lines_few : (text : Text) (events : List EnvEvent) → ReadsEnvEvents p text events → length events ≤ length text + 1
+  read_lines_few text events (finished h) = let few = first_lines text events [] h in omega arith
+  read_lines_few text events (unfinished h) = let few = first_lines (whole_line text) events [] h in omega (arith, few, length-append text (codes "\n"))
+
+  pub refused_lines_few : (text : Text) (lines : ℕ) → AreEventsRefusedAfter p text lines → lines ≤ length text
+  refused_lines_few text lines h = let few = first_lines text h.events h.rest h.events_first in let count = h.count in omega arith

@@ -1,0 +1,166 @@
+-- A text is read as one list of events, or is refused after one number of lines, and never both.
+use Rattle.std.proofs.Common.{◌≡◌, ◌≢◌, ◌∙◌, ◌<◌, ◌≤◌, ◌⊎◌, inl, inr, ℕ, zero, suc, sym, ap, ap₂, subst, refl, List, [], ◌∷◌, ◌++◌, length, codes, append_assoc, append-nil, arith}
+use Rattle.std.specs.List.{All}
+use Rattle.std.proofs.lemmas.List.{length-append}
+use Rattle.il_syntax.specs.declared.program.Program.{Program}
+use Rattle.journal_text.specs.Limits.{HasPlainNames}
+use Rattle.journal_text.specs.Line.{Text}
+use Rattle.journal_text.specs.Reading.{IsLineEnd}
+use Rattle.journal_text.specs.Report.{whole_line}
+use Rattle.journal_text.proofs.Callers.{HasOwnNames, same_line}
+use Rattle.seq_pair.specs.declared.event.EnvEvent.{EnvEvent}
+use Rattle.seq_text.specs.Event.{env_event_line, FitsEnvEvent}
+use Rattle.seq_text.specs.Events.{env_event_lines, most_env_events, HasEnvEvents, BeginsWithEnvEvent, ReadsEnvEvents, finished, unfinished, AreEventsRefusedAfter}
+use Rattle.seq_text.proofs.EventWords.{clean_line, same_line_event, some_bytes}
+
+all_rest : (p : Program) (e : EnvEvent) (es : List EnvEvent) → All (FitsEnvEvent p) (e ∷ es) → All (FitsEnvEvent p) es
+all_rest p e es h k d below = h (suc k) d (omega arith)
+
+-- a text that goes on after a newline as another does whose own newline comes last
+record GoesOn (text front : Text) : Type 0 where
+  more : Text
+  is : text ≡ front ++ more
+  ends : IsLineEnd more
+
+without_last : (text front rest : Text) → text ++ codes "\n" ≡ front ++ (10 ∷ rest) → GoesOn text front
+without_last [] [] rest e = record { more = []; is = refl; ends = tt }
+without_last (b ∷ bs) [] rest e = record { more = b ∷ bs; is = refl; ends = cc }
+without_last [] (c ∷ front) rest e = absurd (never front rest cc)
+  where
+    never : (front rest : Text) → [] ≡ front ++ (10 ∷ rest) → ⊥
+    never [] rest e = absurd cc
+    never (b ∷ bs) rest e = absurd cc
+without_last (b ∷ bs) (c ∷ front) rest e =
+    let heads : b ≡ c = cc in
+    let h = without_last bs front rest cc in
+    record { more = h.more; is = ap₂ (λ x xs. x ∷ xs) heads h.is; ends = h.ends }
+
+module _ (p : Program) where
+  -- a text begins with the whole line of an event
+  record BeginsWithWhole (text : Text) : Type 0 where
+    event : EnvEvent
+    rest : Text
+    is : text ≡ whole_line (env_event_line p event) ++ rest
+    fits : FitsEnvEvent p event
+
+  begins : (text : Text) → BeginsWithWhole text → BeginsWithEnvEvent p text
+  begins text b = record { event = b.event; rest = 10 ∷ b.rest; is = b.is ∙ append_assoc (env_event_line p b.event) (codes "\n") b.rest; ends = refl; fits = b.fits }
+
+  begins_last : (text : Text) → BeginsWithWhole (text ++ codes "\n") → BeginsWithEnvEvent p text
+  begins_last text b =
+      let h = without_last text (env_event_line p b.event) b.rest (b.is ∙ append_assoc (env_event_line p b.event) (codes "\n") b.rest) in
+      record { event = b.event; rest = h.more; is = h.is; ends = h.ends; fits = b.fits }
+
+  -- it has two bytes or more
+  long : (text : Text) → BeginsWithWhole text → 2 ≤ length text
+  long text b =
+      omega (arith, ap length b.is, some_bytes p b.event, length-append (whole_line (env_event_line p b.event)) b.rest, length-append (env_event_line p b.event) (codes "\n"))
+
+  none : BeginsWithWhole [] → ⊥
+  none b = let h = long [] b in omega arith
+
+  no_blank_line : BeginsWithWhole (codes "\n") → ⊥
+  no_blank_line b = let h = long (codes "\n") b in omega arith
+
+  no_newline : (text : Text) → [] ≡ text ++ codes "\n" → ⊥
+  no_newline text e = omega (arith, ap length e, length-append text (codes "\n"))
+
+  module _ (names : HasPlainNames p) (own : HasOwnNames p) where
+    one_line : (e f : EnvEvent) (r s : Text) → FitsEnvEvent p e → FitsEnvEvent p f → whole_line (env_event_line p e) ++ r ≡ whole_line (env_event_line p f) ++ s → (e ≡ f) × (r ≡ s)
+    one_line e f r s h k same =
+        let cut = same_line (env_event_line p e) (env_event_line p f) (10 ∷ r) (10 ∷ s) (clean_line p e names h) (clean_line p f names k) refl refl
+        (sym (append_assoc (env_event_line p e) (codes "\n") r) ∙ same ∙ append_assoc (env_event_line p f) (codes "\n") s) in
+        let rests : 10 ∷ r ≡ 10 ∷ s = cut.1 in
+        (same_line_event p own names e f h k cut.0, cc)
+
+    -- of two lists of events that one text begins with, one is the front of the other
+    data Compared (es fs : List EnvEvent) (r s : Text) : Type 0 where
+      equal : es ≡ fs → r ≡ s → Compared es fs r s
+      longer : length fs < length es → BeginsWithWhole s → Compared es fs r s
+      shorter : length es < length fs → BeginsWithWhole r → Compared es fs r s
+
+    lifted : (e f : EnvEvent) (es fs : List EnvEvent) (r s : Text) → e ≡ f → Compared es fs r s → Compared (e ∷ es) (f ∷ fs) r s
+    lifted e f es fs r s same (equal a b) = equal (ap₂ (λ x xs. x ∷ xs) same a) b
+    lifted e f es fs r s same (longer a b) = longer (omega arith) b
+    lifted e f es fs r s same (shorter a b) = shorter (omega arith) b
+
+    compared : (es fs : List EnvEvent) (r s : Text) → All (FitsEnvEvent p) es → All (FitsEnvEvent p) fs → env_event_lines p es ++ r ≡ env_event_lines p fs ++ s → Compared es fs r s
+    compared [] [] r s h k same = equal refl same
+    compared [] (f ∷ fs) r s h k same =
+        shorter (omega arith) (record {
+          event = f;
+          rest = env_event_lines p fs ++ s;
+          is = same ∙ append_assoc (whole_line (env_event_line p f)) (env_event_lines p fs) s;
+          fits = k 0 f (omega arith);
+        })
+    compared (e ∷ es) [] r s h k same =
+        longer (omega arith) (record {
+          event = e;
+          rest = env_event_lines p es ++ r;
+          is = sym same ∙ append_assoc (whole_line (env_event_line p e)) (env_event_lines p es) r;
+          fits = h 0 e (omega arith);
+        })
+    compared (e ∷ es) (f ∷ fs) r s h k same =
+        let step = one_line e f (env_event_lines p es ++ r) (env_event_lines p fs ++ s) (h 0 e (omega arith)) (k 0 f (omega arith))
+        (sym (append_assoc (whole_line (env_event_line p e)) (env_event_lines p es) r) ∙ same ∙ append_assoc (whole_line (env_event_line p f)) (env_event_lines p fs) s) in
+        lifted e f es fs r s step.0 (compared es fs r s (all_rest p e es h) (all_rest p f fs k) step.1)
+
+    -- two readings
+
+    same_events : (text : Text) (es fs : List EnvEvent) → HasEnvEvents p text es [] → HasEnvEvents p text fs [] → es ≡ fs
+    same_events text es fs h k = go (compared es fs [] [] h.fit k.fit (sym h.is ∙ k.is))
+      where
+        go : Compared es fs [] [] → es ≡ fs
+        go (equal same rests) = same
+        go (longer more b) = absurd (none b)
+        go (shorter more b) = absurd (none b)
+
+    never_both : (text : Text) (es fs : List EnvEvent) → HasEnvEvents p text es [] → HasEnvEvents p (whole_line text) fs [] → ⊥
+    never_both text es fs h k =
+        go (compared es fs (codes "\n") [] h.fit k.fit (ap (λ t. t ++ codes "\n") (sym (h.is ∙ append-nil (env_event_lines p es))) ∙ k.is))
+      where
+        go : Compared es fs (codes "\n") [] → ⊥
+        go (equal same rests) = absurd cc
+        go (longer more b) = none b
+        go (shorter more b) = no_blank_line b
+
+    pub one_reading : (text : Text) (es fs : List EnvEvent) → ReadsEnvEvents p text es → ReadsEnvEvents p text fs → es ≡ fs
+    one_reading text es fs (finished h) (finished k) = same_events text es fs h k
+    one_reading text es fs (finished h) (unfinished k) = absurd (never_both text es fs h k)
+    one_reading text es fs (unfinished h) (finished k) = absurd (never_both text fs es k h)
+    one_reading text es fs (unfinished h) (unfinished k) = same_events (whole_line text) es fs h k
+
+    -- a reading and a refusal
+
+    module _ (text : Text) (lines : ℕ) (k : AreEventsRefusedAfter p text lines) where
+      no_more : (n : ℕ) → length k.events < n → n ≤ most_env_events → (BeginsWithEnvEvent p k.rest) → ⊥
+      no_more n less few b = go k.no_event
+        where
+          go : (lines ≡ most_env_events) ⊎ (BeginsWithEnvEvent p k.rest → ⊥) → ⊥
+          go (inl full) = let count = k.count in omega arith
+          go (inr other) = other b
+
+      pub not_refused : (es : List EnvEvent) → ReadsEnvEvents p text es → ⊥
+      not_refused es (finished h) = go (compared es k.events [] k.rest h.fit k.events_first.fit (sym h.is ∙ k.events_first.is))
+        where
+          go : Compared es k.events [] k.rest → ⊥
+          go (equal same rests) = k.goes_on (sym rests)
+          go (longer more b) = no_more (length es) more h.few (begins k.rest b)
+          go (shorter more b) = none b
+      not_refused es (unfinished h) =
+          go (compared es k.events [] (k.rest ++ codes "\n") h.fit k.events_first.fit
+          (sym h.is ∙ ap (λ t. t ++ codes "\n") k.events_first.is ∙ append_assoc (env_event_lines p k.events) k.rest (codes "\n")))
+        where
+          go : Compared es k.events [] (k.rest ++ codes "\n") → ⊥
+          go (equal same rests) = no_newline k.rest rests
+          go (longer more b) = no_more (length es) more h.few (begins_last k.rest b)
+          go (shorter more b) = none b
+
+    -- two refusals
+    pub one_count : (text : Text) (m n : ℕ) → AreEventsRefusedAfter p text m → AreEventsRefusedAfter p text n → m ≡ n
+    one_count text m n h k = go (compared h.events k.events h.rest k.rest h.events_first.fit k.events_first.fit (sym h.events_first.is ∙ k.events_first.is))
+      where
+        go : Compared h.events k.events h.rest k.rest → m ≡ n
+        go (equal same rests) = sym h.count ∙ ap length same ∙ k.count
+        go (longer more b) = absurd (no_more text n k (length h.events) more h.events_first.few (begins k.rest b))
+        go (shorter more b) = absurd (no_more text m h (length k.events) more k.events_first.few (begins h.rest b))
