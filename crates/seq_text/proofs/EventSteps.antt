@@ -62,8 +62,11 @@ module _ (p : Program) where
             inl (before ∙ ap (λ r. env_event_lines p events ++ r) (is ∙ ap (λ l. whole_line l ++ after) same) ∙ sym (append_assoc (env_event_lines p events) (whole_line (env_event_line p e)) after)
             ∙ ap (λ t. t ++ after) (sym (lines_more events e)))
         go (inr last) =
-            inr (last.1, ap (λ t. t ++ codes "\n") (before ∙ ap (λ r. env_event_lines p events ++ r) (last.0 ∙ same)) ∙ append_assoc (env_event_lines p events) (env_event_line p e) (codes "\n")
-            ∙ sym (lines_more events e))
+            inr (
+              last.1,
+              ap (λ t. t ++ codes "\n") (before ∙ ap (λ r. env_event_lines p events ++ r) (last.0 ∙ same)) ∙ append_assoc (env_event_lines p events) (env_event_line p e) (codes "\n")
+                  ∙ sym (lines_more events e),
+            )
 
     -- a line that is no event
     pub refused_with : (lines : ℕ) → length events ≡ lines → (lines ≡ most_env_events) ⊎ (BeginsWithEnvEvent p rest → ⊥) → AreEventsRefusedAfter p text lines

@@ -34,9 +34,9 @@ one_session input p q es l p' q' es' l' h k =
     let same = same_source input (λ r t. Unit {0}) p q p' q' h.source_text h.target_text h.events_text k.source_text k.target_text k.events_text h.divided k.divided h.spelled k.spelled in
     let formed = spelled_well_formed k.source_text p' k.spelled.source_spelled in
     let reads : ReadsEnvEvents p' k.events_text es =
-        at_source input (λ r t. ReadsEnvEvents r t es) p q p' q' h.source_text h.target_text h.events_text k.source_text k.target_text k.events_text h.divided k.divided h.spelled k.spelled h.reads in
+    at_source input (λ r t. ReadsEnvEvents r t es) p q p' q' h.source_text h.target_text h.events_text k.source_text k.target_text k.events_text h.divided k.divided h.spelled k.spelled h.reads in
     let first : l ≡ event_line_number k.source_text k.target_text 0 =
-        at_parts input (λ x y z. l ≡ event_line_number x y 0) h.source_text h.target_text h.events_text k.source_text k.target_text k.events_text h.divided k.divided h.first in
+    at_parts input (λ x y z. l ≡ event_line_number x y 0) h.source_text h.target_text h.events_text k.source_text k.target_text k.events_text h.divided k.divided h.first in
     (same.0, same.1, one_reading p' (plain_names p' formed) (own_names p' formed) k.events_text es es' reads k.reads, first ∙ sym k.first)
 
 pub session_unrefused : SessionsThatReadAreNotRefused
@@ -46,7 +46,7 @@ session_unrefused input p q es l r h (of_programs a b c s divided refused is) =
 session_unrefused input p q es l r h (of_events a b c p' q' lines divided spelled refused is) =
     let formed = spelled_well_formed a p' spelled.source_spelled in
     let reads : ReadsEnvEvents p' c es =
-        at_source input (λ r t. ReadsEnvEvents r t es) p q p' q' h.source_text h.target_text h.events_text a b c h.divided divided h.spelled spelled h.reads in
+    at_source input (λ r t. ReadsEnvEvents r t es) p q p' q' h.source_text h.target_text h.events_text a b c h.divided divided h.spelled spelled h.reads in
     not_refused p' (plain_names p' formed) (own_names p' formed) c lines refused es reads
 
 pub one_session_refusal : SessionsHaveOneFirstRefusal
@@ -64,9 +64,9 @@ one_session_refusal input r q (of_events a b c p p' lines divided spelled refuse
 one_session_refusal input r q (of_events a b c p p' lines divided spelled refused is) (of_events a' b' c' o o' lines' divided' spelled' refused' is') =
     let formed = spelled_well_formed a' o spelled'.source_spelled in
     let here : AreEventsRefusedAfter o c' lines =
-        at_source input (λ s t. AreEventsRefusedAfter s t lines) p p' o o' a b c a' b' c' divided divided' spelled spelled' refused in
+    at_source input (λ s t. AreEventsRefusedAfter s t lines) p p' o o' a b c a' b' c' divided divided' spelled spelled' refused in
     let first : r ≡ line_refusal E (event_line_number a' b' lines) =
-        at_parts input (λ x y z. r ≡ line_refusal E (event_line_number x y lines)) a b c a' b' c' divided divided' is in
+    at_parts input (λ x y z. r ≡ line_refusal E (event_line_number x y lines)) a b c a' b' c' divided divided' is in
     first ∙ ap (λ n. line_refusal E (event_line_number a' b' n)) (one_count o (plain_names o formed) (own_names o formed) c' lines lines' here refused') ∙ sym is'
 
 pub session_only : (input : Text) (r : Result Session SessionFault) → IsSessionAnswer input r → (p q : Program) (es : List EnvEvent) (l : ℕ) → ReadsSession input p q es l

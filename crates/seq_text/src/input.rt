@@ -41,7 +41,8 @@ fn no_events(source_text: &[u8]) -> SessionFault
 /// The line of the first event.
 fn first_line(source_text: &[u8], target_text: &[u8]) -> u32
     requires { length source_text.now + length target_text.now < 2 ^ 32 - 14 }
-    ensures { result ≡ event_line_number source_text.now target_text.now 0 }
+    ensures is { result ≡ event_line_number source_text.now target_text.now 0 }
+    ensures few { result ≤ length source_text.now + length target_text.now + 3 }
 {
     newlines(source_text) as u32 + newlines(target_text) as u32 + 3
 }

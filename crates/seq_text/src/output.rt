@@ -67,7 +67,7 @@ fn push_update(
 ) -> Result<(), AllocError>
     ensures { OnOk result (out.new.items ≡ out.old.items
         ++ join_with_byte 32 (codes "update" ∷ (location_name atomic.now y ∷ (order_text order
-            ∷ (value_word old.0 ∷ (value_word old.1 ∷ (value_word new.0 ∷ (value_word new.1 ∷ [])))))))) }
+        ∷ (value_word old.0 ∷ (value_word old.1 ∷ (value_word new.0 ∷ (value_word new.1 ∷ [])))))))) }
 {
     push_access(out, b"update", atomic, y, order, old.0, old.1)?;
     push_blank(out)?;
