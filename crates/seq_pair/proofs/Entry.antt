@@ -1,14 +1,16 @@
 -- After a step of both the entry is over.
-use Rattle.std.proofs.Common.{◌≡◌, ℕ, Bool, true, false, cond, List, sym, ◌∙◌}
+use Rattle.std.proofs.Common.{◌≡◌, ℕ, Bool, true, false, cond, List, sym, ◌∙◌, subst}
 use Rattle.values_undef.specs.declared.value.Val.{Val}
 use Rattle.il_syntax.specs.declared.program.Program.{Program}
+use Rattle.thread_core.specs.Programs.{code_of}
+use Rattle.thread_core.specs.Frames.{Frame}
 use Rattle.seq_semantics.specs.declared.seen.Seen.{Seen}
 use Rattle.seq_semantics.specs.declared.seen.Seen.TheVariants.{Silent, Plain, Read, Write, Update, Miss, Fence, Print, Call, End, Failed}
-use Rattle.seq_semantics.specs.Held.{IsSeqOf}
+use Rattle.seq_semantics.specs.Held.{seq_in, IsSeqOf}
 use Rattle.seq_pair.specs.declared.pairing.Pairing.{Pairing}
 use Rattle.seq_pair.specs.declared.trace.PairEnd.TheVariants.{Same, SourceFailed}
 use Rattle.seq_pair.specs.Labels.{is_failed}
-use Rattle.seq_pair.specs.Pair.{Stage, AtEntry, Inside, Over, stage_of, stage_after}
+use Rattle.seq_pair.specs.Pair.{AtEntry, Inside, Over, stage_of, stage_after}
 use Rattle.seq_pair.specs.Pairing.{IsPairOf}
 
 not_inside : (ts ss : List Val) → Inside ≡ AtEntry ts ss → ⊥
@@ -47,4 +49,19 @@ pair_inside p q f h target source e = record {
   target = target;
   source = source;
   entry = λ ts ss g. absurd (not_inside ts ss (sym e ∙ g));
+}
+
+-- and it stays one where the stage and the calls stay
+pub pair_kept : (p q : Program) (f : ℕ) (h k : Pairing) → IsPairOf p q f h → IsSeqOf q k.target → IsSeqOf p k.source → k.stage ≡ h.stage → (seq_in q k.target).frame ≡ (seq_in q h.target).frame → (seq_in p k.source).frame ≡ (seq_in p h.source).frame → IsPairOf p q f k
+pair_kept p q f h k pair target source stage t s = record {
+  target = target;
+  source = source;
+  entry = λ ts ss e.
+      let before = pair.entry ts ss (sym stage ∙ e) in
+      record {
+        same_many = before.same_many;
+        few = before.few;
+        target_begins = subst (λ (z : Frame). z.continuation ≡ code_of q z.function) (sym t) before.target_begins;
+        source_begins = subst (λ (z : Frame). z.continuation ≡ code_of p z.function) (sym s) before.source_begins;
+      };
 }

@@ -1,13 +1,13 @@
 -- Where others may be heard.
-use Rattle.std.proofs.Common.{◌≡◌, ◌⊎◌, ℕ, Bool, true, false, ◌&&◌, ◌||◌, Option, Some, None, IsSomeAnd, refl, sym, ap, ◌∙◌, subst, inl, inr}
+use Rattle.std.proofs.Common.{◌≡◌, ◌⊎◌, ℕ, Bool, true, false, ◌&&◌, ◌||◌, Option, Some, None, IsSomeAnd, refl, subst, inl, inr}
 use Rattle.std.proofs.lemmas.Bool.{false≢true, and_parts}
 use Rattle.il_syntax.specs.declared.program.Program.{Program}
 use Rattle.il_syntax.specs.Statements.{Head}
 use Rattle.il_paths.specs.Heads.{is_acquire, is_call}
-use Rattle.seq_semantics.specs.Seq.{Seq, head_in, wants_of}
+use Rattle.seq_semantics.specs.Seq.{head_in, wants_of}
 use Rattle.seq_semantics.specs.Held.{seq_in, MayHear}
 use Rattle.seq_pair.specs.declared.pairing.Pairing.{Pairing}
-use Rattle.seq_pair.specs.Pair.{Stage, AtEntry, Inside, Over, is_at_entry, is_inside, wants_value, wants_fence, hears, may_hear}
+use Rattle.seq_pair.specs.Pair.{Pair, Stage, AtEntry, Inside, Over, is_at_entry, is_inside, wants_value, wants_fence, hears, may_hear, may_get}
 use Rattle.seq_pair.specs.Laws.{IsInStep}
 use Rattle.seq_pair.specs.Pairing.{pair_in, IsPairOf}
 
@@ -19,11 +19,11 @@ heard : (o : Option Head) → hears o ≡ true → IsSomeAnd o (λ head. (is_cal
 heard None e = absurd (false≢true e)
 heard (Some head) e = either (is_call head) (is_acquire head) e
 
-hears_at : Stage → Bool → Bool → Bool
+abbrev hears_at : Stage → Bool → Bool → Bool
 hears_at stage w b = is_at_entry stage || (is_inside stage && (w && b))
 
 module _ (p q : Program) (f : ℕ) (h : Pairing) (pair : IsPairOf p q f h) (m : may_hear (pair_in p q h) ≡ true) where
-  waits : Bool
+  abbrev waits : Bool
   waits = wants_value (wants_of (seq_in q h.target)) || wants_fence (wants_of (seq_in q h.target))
 
   hearing : (stage : Stage) → h.stage ≡ stage → hears_at stage waits (hears (head_in (seq_in q h.target))) ≡ true
@@ -46,3 +46,7 @@ module _ (p q : Program) (f : ℕ) (h : Pairing) (pair : IsPairOf p q f h) (m : 
       by (AtEntry ts ss) e = inl (pair.entry ts ss e).source_begins
       by Inside e = inr (heard (head_in (seq_in p h.source)) (in_step.hears e (and_parts waits (hears (head_in (seq_in q h.target))) (hearing Inside e)).1))
       by (Over end) e = absurd (false≢true (hearing (Over end) e))
+
+-- where the pair may get a location, it may hear
+pub heard_first : (p : Program) (s : Pair) (x : ℕ) → may_get p s x ≡ true → may_hear s ≡ true
+heard_first p s x e = (and_parts (may_hear s) _ e).0

@@ -5,3 +5,8 @@ pub mod Fences
 pub mod Events
 pub mod Told
 pub mod Examples
+pub mod Along
+pub mod Pairs
+pub mod Lists
+pub mod Heard
+pub mod Entry

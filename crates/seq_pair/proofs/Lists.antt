@@ -1,5 +1,5 @@
 -- Registers that are given their zeros, and locations that are given what they have.
-use Rattle.std.proofs.Common.{◌≡◌, ℕ, zero, suc, pos, List, [], ◌∷◌, take, replicate, set, get_or, refl, sym, ap, ◌∙◌, subst}
+use Rattle.std.proofs.Common.{◌≡◌, ℕ, zero, suc, pos, ◌+◌, List, [], ◌∷◌, take, replicate, set, get_or, refl, sym, ap, ◌∙◌}
 use Rattle.std.specs.List.{AllByRecursion}
 use Rattle.std.proofs.lemmas.List.{set-get_or}
 use Rattle.values_undef.specs.declared.value.Val.{Val}
@@ -8,7 +8,6 @@ use Rattle.thread_core.specs.Frames.{blank, loaded}
 use Rattle.il_syntax.specs.declared.program.Program.{Program}
 use Rattle.thread_core.specs.Frames.{called}
 use Rattle.seq_semantics.specs.declared.place.Perm.TheVariants.{Bare}
-use Rattle.seq_semantics.specs.declared.place.Place.{Place}
 use Rattle.seq_semantics.specs.Seq.{Seq, place_in, seq_begun}
 use Rattle.seq_pair.specs.Pair.{bared}
 

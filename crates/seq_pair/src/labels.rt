@@ -17,6 +17,7 @@ pub fn is_label(seen: &Seen) -> bool
     }
 }
 
+/// It is a failure.
 pub fn is_failed(seen: &Seen) -> bool
     ensures { result ≡ is_failed seen.now }
 {

@@ -51,6 +51,7 @@ impl Pairing {
         }
     }
 
+    /// The function is begun and not over.
     pub fn is_inside(&self) -> bool
         ensures { result ≡ is_inside self.now.stage }
     {
@@ -60,6 +61,7 @@ impl Pairing {
         }
     }
 
+    /// The source has not failed.
     fn is_without_failure(&self) -> bool
         ensures { result ≡ is_without_failure self.now.stage }
     {
@@ -71,6 +73,7 @@ impl Pairing {
         }
     }
 
+    /// The entry may end: each parameter has its value.
     fn may_enter(&self, p: &Program, f: u32) -> bool
         requires there { f < length p.now.functions }
         ensures { (q : TheProgram) → result ≡ is_lawful p.now f (pair_in p.now q self.now) EnvEvent.Enter }
@@ -83,6 +86,7 @@ impl Pairing {
         }
     }
 
+    /// So many steps may be made.
     fn may_run(&self, n: u32) -> bool
         ensures { result ≡ (is_inside self.now.stage && (nat_le 1 n && nat_le n 16384)) }
     {
@@ -104,7 +108,7 @@ impl Pairing {
         }
     }
 
-    /// Both lose the location.
+    /// Both may lose the location.
     fn may_take(&self, p: &Program, q: &Program, f: u32, x: u32) -> bool
         requires programs { ArePaired p.now q.now f }
         requires pair { IsPairOf p.now q.now f self.now }
@@ -116,7 +120,7 @@ impl Pairing {
             && !states::is_owned(&self.source, x)
     }
 
-    /// The source loses the location.
+    /// The source may lose the location.
     fn may_hide(&self, p: &Program, q: &Program, f: u32, x: u32) -> bool
         requires programs { ArePaired p.now q.now f }
         requires pair { IsPairOf p.now q.now f self.now }

@@ -96,6 +96,7 @@ impl Pairing {
     fn step(&mut self, p: &Program, q: &Program, f: u32, old: usize) -> Result<(), NoMemory>
         requires programs { ArePaired p.now q.now f }
         requires pair { IsPairOf p.now q.now f self.old }
+        requires registers { old ≡ register_count p.now f }
         requires goes { goes_on (pair_in p.now q.now self.old) ≡ true }
         requires now { IsInStep old (pair_in p.now q.now self.old) }
         requires next { IsInStep old (pair_step p.now q.now old (pair_in p.now q.now self.old)) }

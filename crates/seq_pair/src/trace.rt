@@ -1,5 +1,6 @@
 //! What target and source are seen to do together.
 ghost use Rattle.std.specs.Prelude.{◌≡◌, [], ◌∷◌, ◌++◌, IfOk};
+ghost use Rattle.seq_pair.specs.declared.trace.PairFault.TheVariants as faults;
 
 use seq_semantics::Seen;
 use std::alloc::Global;
@@ -80,9 +81,9 @@ pub enum PairFault {
 }
 
 impl From<NoMemory> for PairFault {
-    fn from(_error: NoMemory) -> PairFault
-        ensures { result ≡ PairFault.NoMemory }
-    {
+    ghost from_gives = { λ _ e. e ≡ faults.NoMemory };
+
+    fn from(_: NoMemory) -> PairFault {
         PairFault::NoMemory
     }
 }

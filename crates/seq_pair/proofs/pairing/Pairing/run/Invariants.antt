@@ -2,7 +2,7 @@ use Rattle.std.proofs.Common.{◌≡◌, ℕ, ◌≤◌}
 use Rattle.seq_pair.specs.Pair.{steps, register_count}
 use Rattle.seq_pair.specs.Laws.{IsInStep}
 use Rattle.seq_pair.specs.Pairing.{pair_in, IsPairOf}
-use Rattle.seq_pair.proofs.playing.Pairing.run.Given as goal
+use Rattle.seq_pair.proofs.pairing.Pairing.run.Given as goal
 
 abbrev pub invariant-loop-left : goal.invariant-loop-left
 invariant-loop-left l = record {
