@@ -1,0 +1,4 @@
+mod FirstFaults
+mod OneAnswer
+mod Answered
+pub mod Callers
