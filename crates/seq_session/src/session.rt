@@ -1,13 +1,14 @@
 //! From an input and a name to the answer.
-ghost use Rattle.std.specs.Prelude.{◌≡◌, ◌<◌, ◌≤◌, ◌+◌, ◌-◌, ◌^◌, length, IfOk, OnSome};
+ghost use Rattle.std.specs.Prelude.{◌≡◌, ◌<◌, ◌≤◌, ◌+◌, ◌-◌, ◌^◌, Some, length, IfOk, IfSome};
 ghost use Rattle.il_syntax.specs.WellFormed.{IsWellFormed};
+ghost use Rattle.thread_core.specs.Programs.{function_at};
 ghost use Rattle.validator.specs.Shape.{SameShape};
 ghost use Rattle.seq_pair.specs.Laws.{IsAcceptedPair};
 ghost use Rattle.seq_session.specs.Session.{function_number, IsFunctionAnswer, IsNamedAnswer, IsSeqAnswer};
 
 use crate::answer::SeqAnswer;
 use flow_summary::Summed;
-use il_syntax::Function;
+use il_syntax::{Function, Program};
 use seq_pair::{PairFault, seq_pair};
 use seq_text::{SeqRule, Session, SessionFault, read_session, write_trace};
 use std::alloc::Global;
@@ -16,10 +17,18 @@ use values_undef::NoMemory;
 
 /// The number of the function of a name.
 fn function_number(functions: &[Function], name: &[u8]) -> Option<usize>
-    ensures number { result ≡ function_number functions.now name.now }
-    ensures there { OnSome result (λ f. f < length functions.now) }
+    ensures exact { result ≡ function_number functions.now name.now }
+    ensures within { IfSome result (λ f. f < length functions.now) }
 {
     functions.iter().position(|f| f.name.as_slice() == name)
+}
+
+/// The function of this number.
+fn function_of(p: &Program, function: usize) -> &Function
+    requires { function < length p.now.functions }
+    ensures { function_at p.now function ≡ Some result.now }
+{
+    &p.functions.as_slice()[function]
 }
 
 /// What is answered of an accepted function.
@@ -55,8 +64,8 @@ fn judged(alloc: Global, session: &Session, function: usize) -> Result<SeqAnswer
     if !same_shape(&session.source, &session.target) {
         return Ok(SeqAnswer::OtherShape);
     }
-    let source = &session.source.functions.as_slice()[function];
-    let target = &session.target.functions.as_slice()[function];
+    let source = function_of(&session.source, function);
+    let target = function_of(&session.target, function);
     match validate(alloc, &Summed, source, target)? {
         Judged::No { site, why } => Ok(SeqAnswer::RefusedFunction {
             function: function as u32,

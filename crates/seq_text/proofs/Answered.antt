@@ -1,6 +1,5 @@
 -- The answers of the code are those of the input.
-use Rattle.std.proofs.Common.{◌≡◌, ◌+◌, ◌-◌, ◌^◌, ◌<◌, ◌≤◌, ℕ, zero, suc, sym, subst, ap, refl, List, [], ◌∷◌, length, Ok, Err, codes, ◌++◌, arith}
-use Rattle.std.specs.List.{All}
+use Rattle.std.proofs.Common.{◌≡◌, ◌+◌, ◌≤◌, ℕ, sym, subst, ap, refl, List, [], ◌∷◌, length, Err, codes, arith}
 use Rattle.std.proofs.lemmas.List.{length-append}
 use Rattle.il_syntax.specs.declared.program.Program.{Program}
 use Rattle.il_reader.specs.Refusal.{IfRefused}
@@ -8,16 +7,16 @@ use Rattle.il_reader.specs.declared.fault.ParseFault.{ParseFault}
 use Rattle.il_reader.specs.declared.fault.ParseFault.TheVariants as parse_faults
 use Rattle.journal_text.specs.Line.{Text}
 use Rattle.journal_text.specs.Report.{whole_line}
-use Rattle.pair_text.specs.Division.{LacksLine, DividesAtLine, at_line, at_end}
+use Rattle.pair_text.specs.Division.{LacksLine, DividesAtLine}
 use Rattle.pair_text.specs.Refusals.{target_word}
 use Rattle.pair_text.specs.Reading.{SpellTexts, IsFirstOfTexts}
 use Rattle.seq_pair.specs.declared.event.EnvEvent.{EnvEvent}
 use Rattle.seq_text.specs.declared.fault.SeqRule.TheVariants.{T, E}
 use Rattle.seq_text.specs.declared.fault.SessionFault.{SessionFault}
-use Rattle.seq_text.specs.Event.{env_event_line, FitsEnvEvent}
+use Rattle.seq_text.specs.Event.{env_event_line}
 use Rattle.seq_text.specs.Events.{env_event_lines, HasEnvEvents, ReadsEnvEvents, finished, unfinished, AreEventsRefusedAfter}
-use Rattle.seq_text.specs.Refusals.{SeqRefusal, events_word, line_refusal, program_refusal, event_line_number, seq_refused, session_fault}
-use Rattle.seq_text.specs.Reading.{DividesSession, LacksSeparator, no_target, events_before, no_events, IsFirstSessionRefusal, undivided, of_programs, of_events, IsSessionAnswer}
+use Rattle.seq_text.specs.Refusals.{SeqRefusal, events_word, line_refusal, event_line_number, seq_refused, session_fault}
+use Rattle.seq_text.specs.Reading.{DividesSession, no_target, events_before, no_events, IsFirstSessionRefusal, undivided, of_programs, of_events, IsSessionAnswer}
 
 -- refusals
 
@@ -49,23 +48,7 @@ module _ (input : Text) (fault : SessionFault) where
     events_refused p q lines line spelled refused at is =
         answered (line_refusal E line) (of_events a b c p q lines divided spelled refused (ap (λ n. line_refusal E n) (omega (arith, at)))) is
 
--- lengths
-
--- the texts are shorter than the input by the lines between them
-shorter : (word text a b : Text) → DividesAtLine word text a b → length a + length word + length b ≤ length text
-shorter word text a b (at_line h plain is) = omega (arith, ap length is, length-append a (whole_line word ++ b), length-append (whole_line word) b, length-append word (codes "\n"))
-shorter word text a b (at_end h plain is none) = omega (arith, ap length is, length-append a word, ap length none)
-
-longer_line : (word text a b : Text) → DividesAtLine word text a b → 1 ≤ length b → length a + length word + 1 + length b ≤ length text
-longer_line word text a b (at_line h plain is) some = omega (arith, ap length is, length-append a (whole_line word ++ b), length-append (whole_line word) b, length-append word (codes "\n"))
-longer_line word text a b (at_end h plain is none) some = absurd (omega (arith, ap length none))
-
-pub parts_small : (input a rest b c : Text) → DividesAtLine target_word input a rest → DividesAtLine events_word rest b c → length input < 2 ^ 32 - 1
-    → length a + length b + length c < 2 ^ 32 - 14
-parts_small input a rest b c at at' small =
-    let inner = shorter events_word rest b c at' in
-    let outer = longer_line target_word input a rest at (omega arith) in
-    omega arith
+-- lines
 
 module _ (p : Program) where
   -- an event has a line of its own

@@ -1,11 +1,8 @@
 -- Each text is events of a program, or is refused.
-use Rattle.std.proofs.Common.{◌≡◌, ◌≢◌, ◌∙◌, ◌==◌, Bool, true, false, ◌<◌, ◌≤◌, ◌⊎◌, inl, inr, ℕ, zero, suc, sym, ap, refl, List, [], ◌∷◌, ◌++◌, length, codes, append_assoc, append-nil, arith}
-use Rattle.std.specs.List.{All}
+use Rattle.std.proofs.Common.{◌≡◌, ◌≢◌, ◌==◌, Bool, true, false, ◌<◌, ◌≤◌, ◌⊎◌, inl, inr, ℕ, zero, suc, ap, refl, List, [], ◌∷◌, ◌++◌, length, codes, arith}
 use Rattle.std.proofs.lemmas.Bool.{cases_lt}
 use Rattle.std.proofs.lemmas.Bool.Decides.{nat_tests}
-use Rattle.std.proofs.lemmas.Grind.{flat_map-append}
 use Rattle.std.proofs.lemmas.List.{length-append}
-use Rattle.std.proofs.lemmas.List.Elements.{All-append}
 use Rattle.values_undef.specs.declared.value.Val.{Val}
 use Rattle.il_syntax.specs.declared.program.Program.{Program}
 use Rattle.journal_text.specs.Limits.{HasPlainNames, IsValue}

@@ -1,5 +1,5 @@
 -- Each input has an answer.
-use Rattle.std.proofs.Common.{◌≡◌, ◌⊎◌, inl, inr, ℕ, refl, List}
+use Rattle.std.proofs.Common.{◌⊎◌, inl, inr, ℕ, refl, List}
 use Rattle.il_syntax.specs.declared.program.Program.{Program}
 use Rattle.il_reader.specs.Refusal.{Refusal}
 use Rattle.il_parser.proofs.Callers.{spelled_well_formed}

@@ -1,5 +1,5 @@
 -- A text is read as one list of events, or is refused after one number of lines, and never both.
-use Rattle.std.proofs.Common.{◌≡◌, ◌≢◌, ◌∙◌, ◌<◌, ◌≤◌, ◌⊎◌, inl, inr, ℕ, zero, suc, sym, ap, ap₂, subst, refl, List, [], ◌∷◌, ◌++◌, length, codes, append_assoc, append-nil, arith}
+use Rattle.std.proofs.Common.{◌≡◌, ◌∙◌, ◌<◌, ◌≤◌, ◌⊎◌, inl, inr, ℕ, suc, sym, ap, ap₂, refl, List, [], ◌∷◌, ◌++◌, length, codes, append_assoc, append-nil, arith}
 use Rattle.std.specs.List.{All}
 use Rattle.std.proofs.lemmas.List.{length-append}
 use Rattle.il_syntax.specs.declared.program.Program.{Program}

@@ -1,5 +1,5 @@
 -- What a line adds to the events that were read before it.
-use Rattle.std.proofs.Common.{◌≡◌, ◌≢◌, ◌∙◌, ◌<◌, ◌≤◌, ◌⊎◌, inl, inr, ℕ, zero, suc, sym, ap, subst, refl, List, [], ◌∷◌, ◌++◌, length, codes, append_assoc, append-nil, arith, Option, None}
+use Rattle.std.proofs.Common.{◌≡◌, ◌∙◌, ◌<◌, ◌≤◌, ◌⊎◌, inl, inr, ℕ, zero, suc, sym, ap, subst, refl, List, [], ◌∷◌, ◌++◌, length, codes, append_assoc, append-nil, arith, Option, None}
 use Rattle.std.specs.List.{All}
 use Rattle.std.proofs.lemmas.Grind.{flat_map-append}
 use Rattle.std.proofs.lemmas.List.{length-append}
@@ -12,7 +12,7 @@ use Rattle.journal_text.specs.Report.{whole_line}
 use Rattle.journal_text.proofs.Callers.{same_line}
 use Rattle.seq_pair.specs.declared.event.EnvEvent.{EnvEvent}
 use Rattle.seq_text.specs.Event.{env_event_line, FitsEnvEvent}
-use Rattle.seq_text.specs.Events.{env_event_lines, most_env_events, HasEnvEvents, BeginsWithEnvEvent, ReadsEnvEvents, finished, unfinished, AreEventsRefusedAfter, IsNextLine}
+use Rattle.seq_text.specs.Events.{env_event_lines, most_env_events, BeginsWithEnvEvent, ReadsEnvEvents, finished, unfinished, AreEventsRefusedAfter, IsNextLine}
 use Rattle.seq_text.proofs.EventWords.{clean_line}
 
 module _ (p : Program) where

@@ -1,5 +1,5 @@
 -- The words of an event: they are made of visible bytes, a line is cut into them, and they are those of one event alone.
-use Rattle.std.proofs.Common.{◌≡◌, ◌∙◌, ◌==◌, ◌≤◌, ◌<◌, ◌^◌, ℕ, codes, sym, ap, subst, refl, true, false, List, [], ◌∷◌, length, get_or, take, arith, Option, Some, None}
+use Rattle.std.proofs.Common.{◌≡◌, ◌∙◌, ◌==◌, ◌≤◌, ℕ, codes, sym, ap, subst, refl, true, List, [], ◌∷◌, length, get_or, take, arith, Option, Some, None}
 use Rattle.std.specs.Fmt.{decimal}
 use Rattle.std.specs.List.{join_with_byte, list_all, slice_split}
 use Rattle.std.specs.Str.{IsUtf8}

@@ -2,7 +2,6 @@
 use Rattle.std.proofs.Common.{◌≡◌, ◌∙◌, ℕ, sym, ap, subst, refl, List, Result, Ok, Err}
 use Rattle.std.specs.Prelude.{MatchResult}
 use Rattle.il_syntax.specs.declared.program.Program.{Program}
-use Rattle.il_reader.specs.Refusal.{Refusal}
 use Rattle.il_parser.proofs.Callers.{spelled_well_formed}
 use Rattle.journal_text.specs.Line.{Text}
 use Rattle.journal_text.proofs.Callers.{own_names, plain_names}
