@@ -15,7 +15,13 @@ pub enum SeqAnswer {
     /// Locations, threads, or names or parameters of functions differ.
     OtherShape,
     /// The target's function of this number may not stand for the source's: its first fault.
-    RefusedFunction { function: u32, site: u32, why: Fault },
+    RefusedFunction {
+        function: u32,
+        site: u32,
+        why: Fault,
+    },
     /// The lines of the trace of the function's target and source.
-    Played { text: Bytes },
+    Played {
+        text: Bytes,
+    },
 }

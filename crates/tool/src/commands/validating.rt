@@ -110,11 +110,13 @@ fn judged(alloc: Global, source: &Program, target: &Program) -> Result<Output, N
         target.functions.as_slice(),
     )? {
         None => written(alloc, "accepted\n", Status::Done),
-        Some(RefusedFunction {
-            function,
-            site,
-            why,
-        }) => function_refused(alloc, function, site, why),
+        Some(
+            RefusedFunction {
+                function,
+                site,
+                why,
+            },
+        ) => function_refused(alloc, function, site, why),
     }
 }
 
