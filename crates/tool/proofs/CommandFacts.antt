@@ -1,6 +1,6 @@
 -- What is known of each command: its outputs go with statuses of outputs, an input that it accepts is answered by its
 -- work, and one that it refuses by a refusal.
-use Rattle.std.proofs.Common.{◌≡◌, ℕ, List}
+use Rattle.std.proofs.Common.{ℕ, List}
 use Rattle.tool.specs.declared.status.Status.{Status}
 use Rattle.tool.specs.declared.status.Status.TheVariants as status
 use Rattle.tool.specs.Meaning.{CommandMeaning}

@@ -1,6 +1,6 @@
 -- `seq`: a function of a source and of its target, played together through the events of an environment.
 use Rattle.std.specs.Prelude.{◌≡◌, ◌⊎◌, ℕ, List, Some}
-use Rattle.seq_session.specs.Refusals.{seq_rule_word}
+use Rattle.seq_text.specs.Refusals.{seq_rule_word}
 use Rattle.seq_session.specs.Session.{IsSeqAnswer}
 use Rattle.seq_session.specs.declared.answer.SeqAnswer.{SeqAnswer}
 use Rattle.seq_session.specs.declared.answer.SeqAnswer.TheVariants.{Refused, OtherShape, RefusedFunction, Played}
