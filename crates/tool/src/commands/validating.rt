@@ -110,13 +110,7 @@ fn judged(alloc: Global, source: &Program, target: &Program) -> Result<Output, N
         target.functions.as_slice(),
     )? {
         None => written(alloc, "accepted\n", Status::Done),
-        Some(
-            RefusedFunction {
-                function,
-                site,
-                why,
-            },
-        ) => function_refused(alloc, function, site, why),
+        Some(found) => function_refused(alloc, found.function, found.site, found.why),
     }
 }
 
