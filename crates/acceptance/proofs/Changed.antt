@@ -2,15 +2,15 @@
 -- end, and merged code is the old tree.
 use Rattle.std.proofs.Common.{◌≡◌, ℕ, zero, suc, ◌+◌, Bool, true, false, cond, leb, ltb, ◌&&◌, ◌==◌, List, [], ◌∷◌, ◌++◌, length, slice_get, Option, Some, refl, sym, ap, ◌∙◌, subst, ◌⊎◌, inl, inr, ⊎_elim, arith, append_assoc, append-nil, length-append}
 use Rattle.std.proofs.Math.Seq.{get_or-append_seam}
-use Rattle.std.proofs.lemmas.Bool.{false≢true, leb-true, ltb-true}
+use Rattle.std.proofs.lemmas.Bool.{false≢true, leb-true, ltb-true, and_parts}
 use Rattle.std.specs.Str.{bytes_eq}
 use Rattle.il_syntax.specs.declared.statement.Stmt.TheOpen.{Skip, Copy, Compute, Load, Store, AtomicLoad, AtomicStore, Update, Fence, Print, If, While, Call}
 use Rattle.il_syntax.specs.declared.program.Function.{Function}
 use Rattle.il_syntax.specs.Statements.{Head}
 use Rattle.il_paths.specs.Tree.{Leaf, head_of_leaf, Tree, Empty, Then, IfThen, WhileThen, tree_of, sites_of, heads_in}
 use Rattle.rewriting.specs.Changed.{changed_tree, SameHeads, IsChanged}
-use Rattle.flow_facts.specs.Levels.{atoms_equal}
-use Rattle.flow_facts.proofs.Callers.{atoms_equal-refl}
+use Rattle.il_paths.specs.Atoms.{atoms_equal}
+use Rattle.il_paths.proofs.Callers.{atoms_equal-refl}
 use Rattle.validator.specs.declared.role.Role.{Role}
 use Rattle.validator.specs.declared.role.Role.TheVariants.{Same}
 use Rattle.validator.specs.declared.walk.NewRegisters.{NewRegisters}
@@ -20,11 +20,8 @@ use Rattle.validator.specs.Walk.{is_new, is_inserted, before_loop, with_partner,
 use Rattle.validator.specs.Merged.{restored_leaf, restored, merged}
 use Rattle.validator.specs.Faults.{begins, same_heads, new_registers, with_heads, outcome, FaultAt, FaultOf, Accepts}
 use Rattle.validator.proofs.Callers.{length-heads_in}
-use Rattle.acceptance.proofs.Heads.{bytes_self, begins_self, self}
-
-and_parts : (p q : Bool) → (p && q) ≡ true → (p ≡ true) × (q ≡ true)
-and_parts true q e = (refl, e)
-and_parts false q e = absurd (false≢true e)
+use Rattle.acceptance.proofs.Heads.{bytes_self, begins_self}
+use Rattle.rewriting.proofs.Callers.{both, self}
 
 -- where the target has no more registers no load is inserted
 no_new : (n r : ℕ) (b : Bool) → is_new (record { first = n; end = n }) r ≡ b → b ≡ false
@@ -46,10 +43,6 @@ none_inserted n (Print a) = refl
 none_inserted n (If a p q) = refl
 none_inserted n (While a p) = refl
 none_inserted n (Call r f args) = refl
-
--- the heads of a changed function are the same
-both : {p q : Bool} → p ≡ true → q ≡ true → (p && q) ≡ true
-both {p} {q} e f = ap (λ (b : Bool). b && q) e ∙ f
 
 pub same_changed : (f g : Function) → SameHeads f g → same_heads f g ≡ true
 same_changed f g h =

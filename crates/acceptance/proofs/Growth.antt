@@ -7,8 +7,10 @@ use Rattle.il_syntax.specs.declared.statement.Stmt.TheOpen.{Skip, Copy, Compute,
 use Rattle.il_syntax.specs.Statements.{Head}
 use Rattle.il_paths.specs.Tree.{Leaf, head_of_leaf, Tree, Empty, Then, IfThen, WhileThen, tree_of, sites_of}
 use Rattle.il_paths.specs.Code.{Visit, AllHeads}
-use Rattle.flow_facts.specs.Levels.{atoms_equal}
-use Rattle.flow_facts.proofs.Callers.{atoms_equal-refl}
+use Rattle.il_paths.specs.Atoms.{atoms_equal}
+use Rattle.il_paths.proofs.Callers.{atoms_equal-refl}
+use Rattle.rewriting.specs.Kinds.{unchanged}
+use Rattle.rewriting.proofs.Callers.{each_rewritten, both, self}
 use Rattle.load_hoist.specs.declared.growth.Extra.{Extra}
 use Rattle.load_hoist.specs.Introduced.{put_loads}
 use Rattle.validator.specs.declared.role.Role.{Role}
@@ -19,15 +21,13 @@ use Rattle.validator.specs.declared.walk.Part.{Part}
 use Rattle.validator.specs.declared.fault.Fault.{Fault}
 use Rattle.validator.specs.declared.fault.Fault.TheVariants.{V1, V2, V3, V4, V5, V6, V7}
 use Rattle.validator.specs.Walk.{is_new, is_inserted, before_loop, with_partner, inserted_part, part_at, role_at, role_of, Outcome, Apart, Together, and_then, with_role, plain_step, walk}
-use Rattle.validator.specs.Merged.{restored_leaf, restored, merged}
+use Rattle.validator.specs.Merged.{restored_skip, restored_copy, restored_leaf, restored, merged}
 use Rattle.validator.specs.Faults.{begins, same_heads, with_heads, outcome, FaultAt, FaultOf}
 use Rattle.acceptance.specs.Known.{AreNew, HasNewLoads, nothing, keeps, branches, loops, LoadsOld}
 use Rattle.acceptance.specs.Laws.{NewLoadsAreAccepted}
-use Rattle.acceptance.proofs.Heads.{role_self, bytes_self, begins_self, self}
+use Rattle.acceptance.proofs.Heads.{role_self, bytes_self, begins_self}
+use Rattle.acceptance.proofs.Roles.{same_stays}
 use Rattle.acceptance.proofs.Pending.{never_pends}
-
-both : {p q : Bool} → p ≡ true → q ≡ true → (p && q) ≡ true
-both {p} {q} e f = ap (λ (b : Bool). b && q) e ∙ f
 
 -- what the walk finds here: the same statements, and inserted loads before loops
 abbrev Kept : Part → Type 0
@@ -151,35 +151,10 @@ unmoved : (role : Role) → (role ≡ Same) ⊎ (role ≡ Inserted) → is_moved
 unfolding is_moved
 unmoved role h = ⊎_elim (λ e. ap is_moved e) (λ e. ap is_moved e) h
 
-same_stays : (leaf : Leaf) → restored_leaf Same leaf ≡ leaf
-same_stays Skip = refl
-same_stays (Copy r a) = refl
-same_stays (Compute r o a b) = refl
-same_stays (Load r x) = refl
-same_stays (Store x a) = refl
-same_stays (AtomicLoad r o y) = refl
-same_stays (AtomicStore o y a) = refl
-same_stays (Update r o y k) = refl
-same_stays (Fence o) = refl
-same_stays (Print a) = refl
-same_stays (If a p q) = absurd p
-same_stays (While a p) = absurd p
-same_stays (Call r f args) = refl
-
 inserted_stays : (leaf : Leaf) → restored_leaf Inserted leaf ≡ leaf
-inserted_stays Skip = refl
-inserted_stays (Copy r a) = refl
-inserted_stays (Compute r o a b) = refl
-inserted_stays (Load r x) = refl
-inserted_stays (Store x a) = refl
-inserted_stays (AtomicLoad r o y) = refl
-inserted_stays (AtomicStore o y a) = refl
-inserted_stays (Update r o y k) = refl
-inserted_stays (Fence o) = refl
-inserted_stays (Print a) = refl
-inserted_stays (If a p q) = absurd p
-inserted_stays (While a p) = absurd p
-inserted_stays (Call r f args) = refl
+inserted_stays =
+    each_rewritten (λ leaf new. new ≡ leaf) (record unchanged { skip = restored_skip Inserted; copy = restored_copy Inserted })
+    (record { skip = refl; copy = λ r a. refl; compute = λ r o a b. refl; load = λ r x. refl; store = λ x a. refl; other = λ leaf. refl })
 
 -- where nothing was turned or removed, nothing is restored
 stays : (role : Role) (leaf : Leaf) → is_moved role ≡ false → restored_leaf role leaf ≡ leaf

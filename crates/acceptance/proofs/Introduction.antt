@@ -12,6 +12,7 @@ use Rattle.load_hoist.proofs.Callers.{gives_below}
 use Rattle.acceptance.specs.Known.{AreNew, HasNewLoads, nothing, keeps, branches, loops, LoadsOld}
 use Rattle.acceptance.specs.Laws.{IntroducedIsAccepted}
 use Rattle.acceptance.proofs.Growth.{new_loads_are_accepted}
+use Rattle.il_paths.proofs.Callers.{all_heads_more}
 
 -- the registers only grow
 abbrev Grows : Growth → Growth → Type 0
@@ -99,12 +100,6 @@ module _ (na : ℕ) (names : List (List ℕ)) where
 loads_old : (n : ℕ) (h : Head) → GivesBelow n h → LoadsOld n h
 loads_old n h below r x e = subst (λ (k : Head). GivesBelow n k) e below
 
-all_weaker : (P Q : Head → Type 0) → ((h : Head) → P h → Q h) → (t : Tree) → AllHeads P t → AllHeads Q t
-all_weaker P Q f Empty h = tt
-all_weaker P Q f (Then leaf rest) h = (f (head_of_leaf leaf) h.0, all_weaker P Q f rest h.1)
-all_weaker P Q f (IfThen a y n rest) h = (f (If a tt tt) h.0, all_weaker P Q f y h.1, all_weaker P Q f n h.2, all_weaker P Q f rest h.3)
-all_weaker P Q f (WhileThen a d rest) h = (f (While a tt) h.0, all_weaker P Q f d h.1, all_weaker P Q f rest h.2)
-
 pub introduced_is_accepted : IntroducedIsAccepted
 introduced_is_accepted d na names f g w is =
     let t = tree_of f.body in
@@ -118,6 +113,6 @@ introduced_is_accepted d na names f g w is =
       result = is.result;
       more = grows.0;
       registers = is.registers ∙ grows.1;
-      old = all_weaker (GivesBelow old) (LoadsOld old) (loads_old old) t (gives_below d f w);
+      old = all_heads_more (GivesBelow old) (LoadsOld old) (loads_old old) t (gives_below d f w);
       body = subst (HasNewLoads old end t) (sym is.body) (has_new na names old end t [] (growth_of f) (omega arith) (omega (arith, count)));
     })

@@ -1,8 +1,9 @@
-pub mod Heads
-pub mod Pending
-pub mod Changed
-pub mod Forwarding
-pub mod Removal
-pub mod Growth
-pub mod Introduction
+mod Heads
+mod Roles
+mod Pending
+mod Changed
+mod Forwarding
+mod Removal
+mod Growth
+mod Introduction
 pub mod Callers

@@ -23,156 +23,66 @@ use Rattle.validator.specs.declared.fault.Fault.TheVariants.{V1, V2, V3, V4, V5,
 use Rattle.validator.specs.Walk.{role_at, role_of}
 use Rattle.validator.specs.Merged.{restored_leaf}
 use Rattle.validator.specs.Faults.{FaultAt, Accepts}
-use Rattle.validator.proofs.Callers.{site_of_head, visited_head}
+use Rattle.validator.proofs.Callers.{visited_head, same_turned, same_removed, removed_inserted}
 use Rattle.acceptance.specs.Known.{AreDead}
 use Rattle.acceptance.specs.Laws.{DeadStoresAreAccepted, UndeadIsAccepted}
-use Rattle.acceptance.proofs.Heads.{role_self, self}
+use Rattle.acceptance.proofs.Heads.{role_self}
+use Rattle.acceptance.proofs.Roles.{same_inserted, removed_turned, removed_is, Turning, role_by, means, back, each_role}
 use Rattle.acceptance.proofs.Pending.{pending_is_overwritten}
 use Rattle.acceptance.proofs.Changed.{parts_of, found, none_stray, changed_accepted}
+use Rattle.il_paths.proofs.Callers.{site_within}
+use Rattle.rewriting.proofs.Callers.{self}
 
 abbrev removed_by : Bool → ℕ → Atom → Role
 removed_by true x a = Removed x a
 removed_by false x a = Same
 
-abbrev role_by : (ℕ → Bool) → Leaf → Role
-role_by dead Skip = Same
-role_by dead (Copy r a) = Same
-role_by dead (Compute r o a b) = Same
-role_by dead (Load r x) = Same
-role_by dead (Store x a) = removed_by (dead x) x a
-role_by dead (AtomicLoad r o y) = Same
-role_by dead (AtomicStore o y a) = Same
-role_by dead (Update r o y k) = Same
-role_by dead (Fence o) = Same
-role_by dead (Print a) = Same
-role_by dead (If a p q) = absurd p
-role_by dead (While a p) = absurd p
-role_by dead (Call r f args) = Same
-
 store_means : (b : Bool) (x : ℕ) (a : Atom) → role_of (Store x a) (head_of_leaf (if b then Skip else Store x a)) ≡ Some (removed_by b x a)
 store_means true x a = refl
 store_means false x a = role_self (Store x a)
-
-means : (dead : ℕ → Bool) (leaf : Leaf) → role_of (head_of_leaf leaf) (head_of_leaf (dropped_leaf dead leaf)) ≡ Some (role_by dead leaf)
-means dead Skip = role_self Skip
-means dead (Copy r a) = role_self (Copy r a)
-means dead (Compute r o a b) = role_self (Compute r o a b)
-means dead (Load r x) = role_self (Load r x)
-means dead (Store x a) = store_means (dead x) x a
-means dead (AtomicLoad r o y) = role_self (AtomicLoad r o y)
-means dead (AtomicStore o y a) = role_self (AtomicStore o y a)
-means dead (Update r o y k) = role_self (Update r o y k)
-means dead (Fence o) = role_self (Fence o)
-means dead (Print a) = role_self (Print a)
-means dead (If a p q) = absurd p
-means dead (While a p) = absurd p
-means dead (Call r f args) = role_self (Call r f args)
 
 store_back : (b : Bool) (x : ℕ) (a : Atom) → restored_leaf (removed_by b x a) (if b then Skip else Store x a) ≡ Store x a
 store_back true x a = refl
 store_back false x a = refl
 
-back : (dead : ℕ → Bool) (leaf : Leaf) → restored_leaf (role_by dead leaf) (dropped_leaf dead leaf) ≡ leaf
-back dead Skip = refl
-back dead (Copy r a) = refl
-back dead (Compute r o a b) = refl
-back dead (Load r x) = refl
-back dead (Store x a) = store_back (dead x) x a
-back dead (AtomicLoad r o y) = refl
-back dead (AtomicStore o y a) = refl
-back dead (Update r o y k) = refl
-back dead (Fence o) = refl
-back dead (Print a) = refl
-back dead (If a p q) = absurd p
-back dead (While a p) = absurd p
-back dead (Call r f args) = refl
+-- stores may be removed
+abbrev turning : (ℕ → Bool) → Turning
+turning dead = record {
+  load = λ r x. Load r x;
+  store = λ x a. if dead x then Skip else Store x a;
+  load_role = λ r x. Same;
+  store_role = λ x a. removed_by (dead x) x a;
+  load_means = λ r x. role_self (Load r x);
+  store_means = λ x a. store_means (dead x) x a;
+  load_back = λ r x. refl;
+  store_back = λ x a. store_back (dead x) x a;
+}
 
-is_removed : Role → Bool
-is_removed (Removed x a) = true
-is_removed _ = false
+-- nothing is turned, and no load is new
+store_turned : (b : Bool) (y x : ℕ) (c a : Atom) → removed_by b y c ≡ Turned x a → ⊥
+store_turned true y x c a e = removed_turned y c x a e
+store_turned false y x c a e = same_turned x a e
 
-same_removed : (x : ℕ) (a : Atom) → Same ≡ Removed x a → ⊥
-unfolding is_removed
-same_removed x a e = false≢true (ap is_removed e)
+never_turned : (dead : ℕ → Bool) (leaf : Leaf) (x : ℕ) (a : Atom) → role_by (turning dead) leaf ≡ Turned x a → ⊥
+never_turned dead leaf x a =
+    each_role (turning dead) (λ _ role. role ≡ Turned x a → ⊥) (λ _. same_turned x a) (λ r y. same_turned x a) (λ y b. store_turned (dead y) y x b a) leaf
 
-is_other : Role → Bool
-is_other Same = false
-is_other (Removed x a) = false
-is_other _ = true
+store_inserted : (b : Bool) (y : ℕ) (c : Atom) → removed_by b y c ≡ Inserted → ⊥
+store_inserted true y c e = removed_inserted y c e
+store_inserted false y c e = same_inserted e
 
-removed_place : ℕ → Role → ℕ
-removed_place n (Removed x a) = x
-removed_place n _ = n
+never_inserted : (dead : ℕ → Bool) (leaf : Leaf) → role_by (turning dead) leaf ≡ Inserted → ⊥
+never_inserted dead leaf = each_role (turning dead) (λ _ role. role ≡ Inserted → ⊥) (λ _. same_inserted) (λ r y. same_inserted) (λ y b. store_inserted (dead y) y b) leaf
 
-removed_atom : Atom → Role → Atom
-removed_atom b (Removed x a) = a
-removed_atom b _ = b
-
-places : (y : ℕ) (b : Atom) (x : ℕ) (a : Atom) → Removed y b ≡ Removed x a → y ≡ x
-unfolding removed_place
-places y b x a e = ap (removed_place y) e
-
-atoms : (y : ℕ) (b : Atom) (x : ℕ) (a : Atom) → Removed y b ≡ Removed x a → b ≡ a
-unfolding removed_atom
-atoms y b x a e = ap (removed_atom b) e
-
-same_turned : (x : ℕ) (a : Atom) → Same ≡ Turned x a → ⊥
-unfolding is_other
-same_turned x a e = false≢true (ap is_other e)
-
-removed_turned : (y : ℕ) (b : Atom) (x : ℕ) (a : Atom) → Removed y b ≡ Turned x a → ⊥
-unfolding is_other
-removed_turned y b x a e = false≢true (ap is_other e)
-
-same_inserted : Same ≡ Inserted → ⊥
-unfolding is_other
-same_inserted e = false≢true (ap is_other e)
-
-removed_inserted : (y : ℕ) (b : Atom) → Removed y b ≡ Inserted → ⊥
-unfolding is_other
-removed_inserted y b e = false≢true (ap is_other e)
-
--- a role is that of a statement that stays, or of a dead store
+-- what is removed is a dead store
 store_removed : (b : Bool) (y x : ℕ) (c a : Atom) → removed_by b y c ≡ Removed x a → (b ≡ true) × (y ≡ x) × (c ≡ a)
-store_removed true y x c a e = (refl, places y c x a e, atoms y c x a e)
+store_removed true y x c a e = let is = removed_is y c x a e in (refl, is.0, is.1)
 store_removed false y x c a e = absurd (same_removed x a e)
 
-removed_store : (dead : ℕ → Bool) (leaf : Leaf) (x : ℕ) (a : Atom) → role_by dead leaf ≡ Removed x a → (head_of_leaf leaf ≡ Store x a) × (dead x ≡ true)
-removed_store dead (Store y c) x a e =
-    let p = store_removed (dead y) y x c a e in ((λ i. Store (p.1 i) (p.2 i)), subst (λ (z : ℕ). dead z ≡ true) p.1 p.0)
-removed_store dead Skip x a e = absurd (same_removed x a e)
-removed_store dead (Copy r b) x a e = absurd (same_removed x a e)
-removed_store dead (Compute r o b c) x a e = absurd (same_removed x a e)
-removed_store dead (Load r y) x a e = absurd (same_removed x a e)
-removed_store dead (AtomicLoad r o y) x a e = absurd (same_removed x a e)
-removed_store dead (AtomicStore o y b) x a e = absurd (same_removed x a e)
-removed_store dead (Update r o y k) x a e = absurd (same_removed x a e)
-removed_store dead (Fence o) x a e = absurd (same_removed x a e)
-removed_store dead (Print b) x a e = absurd (same_removed x a e)
-removed_store dead (If b p q) x a e = absurd p
-removed_store dead (While b p) x a e = absurd p
-removed_store dead (Call r f args) x a e = absurd (same_removed x a e)
-
--- whether a role is neither, by a test that no role here passes
-module _ (test : Role → Bool) (same_fails : test Same ≡ false) (removed_fails : (x : ℕ) (a : Atom) → test (Removed x a) ≡ false) where
-  store_fails : (b : Bool) (y : ℕ) (c : Atom) → test (removed_by b y c) ≡ false
-  store_fails true y c = removed_fails y c
-  store_fails false y c = same_fails
-
-  role_fails : (dead : ℕ → Bool) (leaf : Leaf) → test (role_by dead leaf) ≡ false
-  role_fails dead (Store y c) = store_fails (dead y) y c
-  role_fails dead Skip = same_fails
-  role_fails dead (Copy r b) = same_fails
-  role_fails dead (Compute r o b c) = same_fails
-  role_fails dead (Load r y) = same_fails
-  role_fails dead (AtomicLoad r o y) = same_fails
-  role_fails dead (AtomicStore o y b) = same_fails
-  role_fails dead (Update r o y k) = same_fails
-  role_fails dead (Fence o) = same_fails
-  role_fails dead (Print b) = same_fails
-  role_fails dead (If b p q) = absurd p
-  role_fails dead (While b p) = absurd p
-  role_fails dead (Call r f args) = same_fails
+removed_store : (dead : ℕ → Bool) (leaf : Leaf) (x : ℕ) (a : Atom) → role_by (turning dead) leaf ≡ Removed x a → (head_of_leaf leaf ≡ Store x a) × (dead x ≡ true)
+removed_store dead leaf x a =
+    each_role (turning dead) (λ leaf role. role ≡ Removed x a → (head_of_leaf leaf ≡ Store x a) × (dead x ≡ true)) (λ _ e. absurd (same_removed x a e)) (λ r y e. absurd (same_removed x a e))
+    (λ y c e. let p = store_removed (dead y) y x c a e in ((λ i. Store (p.1 i) (p.2 i)), subst (λ (z : ℕ). dead z ≡ true) p.1 p.0)) leaf
 
 -- what needs x doesn't store to it, and is not passed by
 not_first : (x : ℕ) (v : Visit) (q : List Visit) → stores_to x v.head ≡ false → needs x v.head ≡ true → IsOverwrittenFirst x (v ∷ q) → ⊥
@@ -222,28 +132,24 @@ module _ (dead : ℕ → ℕ → Bool) (f : Function) (are_dead : AreDead dead f
   changes site = dropped_leaf (dead site)
 
   abbrev roles : ℕ → Leaf → Role
-  roles site = role_by (dead site)
+  roles site = role_by (turning (dead site))
 
   abbrev meant : (n : ℕ) (leaf : Leaf) → role_of (head_of_leaf leaf) (head_of_leaf (changes n leaf)) ≡ Some (roles n leaf)
-  meant n leaf = means (dead n) leaf
+  meant n leaf = means (turning (dead n)) leaf
 
   abbrev returned : (n : ℕ) (leaf : Leaf) → restored_leaf (roles n leaf) (changes n leaf) ≡ leaf
-  returned n leaf = back (dead n) leaf
+  returned n leaf = back (turning (dead n)) leaf
 
   abbrev all : List Part
   all = parts_of changes roles meant returned 0 t
 
-  fails : (test : Role → Bool) → test Same ≡ false → ((x : ℕ) (a : Atom) → test (Removed x a) ≡ false) → (site : ℕ) → test (role_at all site) ≡ false
-  fails test s r site =
-      ⊎_elim (λ k. ap (λ (p : Part). test p.role) k ∙ s) (λ g. ap (λ (p : Part). test p.role) g.2 ∙ role_fails test s r (dead site) g.0) (found changes roles meant returned t site)
-
   none_turned : (site x : ℕ) (a : Atom) → role_at all site ≡ Turned x a → ⊥
-  unfolding is_other
-  none_turned site x a e = false≢true (sym (fails is_other refl (λ y b. refl) site) ∙ ap is_other e)
+  none_turned site x a e =
+      ⊎_elim (λ k. same_turned x a (sym (ap (λ (p : Part). p.role) k) ∙ e)) (λ g. never_turned (dead site) g.0 x a (sym (ap (λ (p : Part). p.role) g.2) ∙ e)) (found changes roles meant returned t site)
 
   none_inserted : (site : ℕ) → role_at all site ≡ Inserted → ⊥
-  unfolding is_other
-  none_inserted site e = false≢true (sym (fails is_other refl (λ y b. refl) site) ∙ ap is_other e)
+  none_inserted site e =
+      ⊎_elim (λ k. same_inserted (sym (ap (λ (p : Part). p.role) k) ∙ e)) (λ g. never_inserted (dead site) g.0 (sym (ap (λ (p : Part). p.role) g.2) ∙ e)) (found changes roles meant returned t site)
 
   -- a removed store stands at its site, and is dead
   store_there : (site x : ℕ) (a : Atom) → role_at all site ≡ Removed x a → (slice_get (heads_in t) site ≡ Some (Store x a)) × (dead site x ≡ true)
@@ -286,4 +192,4 @@ dead_stores_are_accepted dead f g known is = accepted dead f known g is
 
 pub undead_is_accepted : UndeadIsAccepted
 undead_is_accepted f g is =
-    accepted is.dead f (λ site x a here e. (is.overwritten site x (site_of_head (tree_of f.body) site (Store x a) here)).0 e) g is.changed
+    accepted is.dead f (λ site x a here e. (is.overwritten site x (site_within (tree_of f.body) site (Store x a) here)).0 e) g is.changed

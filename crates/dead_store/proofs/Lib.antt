@@ -1,4 +1,3 @@
-pub mod SetLaws
-pub mod OverwrittenLaws
-pub mod UndeadLaws
+mod OverwrittenLaws
+mod UndeadLaws
 pub mod Callers

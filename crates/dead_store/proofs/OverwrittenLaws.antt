@@ -1,17 +1,16 @@
 -- The backward walk says which locations are overwritten first on all paths.
-use Rattle.std.proofs.Common.{◌≡◌, ◌≤◌, ℕ, zero, suc, Bool, true, false, cond, List, [], ◌∷◌, ◌++◌, get_or, reverse, refl, sym, ap, ◌∙◌, subst, ◌⊎◌, inl, inr, ⊎_elim, arith}
+use Rattle.std.proofs.Common.{◌≡◌, ◌≤◌, ℕ, Bool, true, false, cond, List, [], ◌∷◌, ◌++◌, get_or, refl, sym, ap, ◌∙◌, subst, ◌⊎◌, inl, inr, ⊎_elim, arith}
 use Rattle.std.proofs.lemmas.Bool.{false≢true}
-use Rattle.std.proofs.lemmas.List.{reverse-append}
 use Rattle.il_syntax.specs.Statements.{Head}
 use Rattle.il_paths.specs.Code.{Visit, placed}
 use Rattle.il_paths.specs.Tree.{Tree}
 use Rattle.il_paths.specs.Meets.{fold_backward, IsMeetAfter}
 use Rattle.path_meets.specs.Chain.{must_rank, IsMonotone}
-use Rattle.path_meets.specs.Walks.{after}
-use Rattle.path_meets.proofs.Callers.{after_least, after-placed, all_paths_after}
-use Rattle.location_sets.specs.Sets.{has, column}
+use Rattle.path_meets.proofs.Callers.{all_paths_after}
+use Rattle.location_sets.specs.Sets.{has}
+use Rattle.backward_sets.specs.Meets.{KeepsOrder, AreMeetsAfter}
 use Rattle.dead_store.specs.Overwritten.{stores_to, needs, passes_by, AllPassBy, IsOverwrittenFirst, AreOverwritten}
-use Rattle.dead_store.specs.Backward.{overwritten_change, overwritten_step, after_sites}
+use Rattle.dead_store.specs.Backward.{overwritten_change, overwritten_step}
 
 -- what a statement does: nothing, a yes, or a no
 abbrev Does : ℕ → Head → Type 0
@@ -26,27 +25,27 @@ does x head = go (stores_to x head) (needs x head) refl refl
     go false true e f = inr (inr (λ later. (λ i. cond (e i) true (cond (f i) false later))))
 
 -- what passes x by changes nothing
-pub passing : (x : ℕ) (head : Head) (later : Bool) → passes_by x head → overwritten_change x head later ≡ later
+passing : (x : ℕ) (head : Head) (later : Bool) → passes_by x head → overwritten_change x head later ≡ later
 passing x head later p = λ i. cond (p.0 i) true (cond (p.1 i) false later)
 
 -- a store to x overwrites it, whatever comes later
 storing : (x : ℕ) (head : Head) (later : Bool) → stores_to x head ≡ true → overwritten_change x head later ≡ true
 storing x head later e = ap (λ b. cond b true (cond (needs x head) false later)) e
 
-pub step_monotone : (x : ℕ) → IsMonotone must_rank (overwritten_step x)
+step_monotone : (x : ℕ) → IsMonotone must_rank (overwritten_step x)
 step_monotone x v a b h =
     ⊎_elim (λ p. let e = ap must_rank (passing x v.head a p) in let f = ap must_rank (passing x v.head b p) in omega arith)
     (⊎_elim (λ s. let e = ap must_rank (storing x v.head a s) in let f = ap must_rank (storing x v.head b s) in omega arith) (λ n. let e = ap must_rank (n a) in let f = ap must_rank (n b) in omega arith))
     (does x v.head)
 
-pub must_bounded : (a : Bool) → must_rank a ≤ 1
+must_bounded : (a : Bool) → must_rank a ≤ 1
 must_bounded true = omega arith
 must_bounded false = omega arith
 
 put_before : (x : ℕ) (v : Visit) (q : List Visit) → passes_by x v.head → IsOverwrittenFirst x q → IsOverwrittenFirst x (v ∷ q)
 put_before x v q f o = record { before = v ∷ o.before; store = o.store; after = o.after; is = ap (λ (p : List Visit). v ∷ p) o.is; stores = o.stores; untouched = (f, o.untouched) }
 
-pub fold_overwritten : (x : ℕ) (q : List Visit) → fold_backward (overwritten_step x) q false ≡ true → IsOverwrittenFirst x q
+fold_overwritten : (x : ℕ) (q : List Visit) → fold_backward (overwritten_step x) q false ≡ true → IsOverwrittenFirst x q
 fold_overwritten x [] e = absurd (false≢true e)
 fold_overwritten x (v ∷ q) e = go (does x v.head) (fold_overwritten x q)
   where
@@ -59,27 +58,15 @@ fold_stored : (x : ℕ) (before : List Visit) (store : Visit) (rest : List Visit
 fold_stored x [] store rest e u = storing x store.head (fold_backward (overwritten_step x) rest false) e
 fold_stored x (v ∷ before) store rest e u = passing x v.head (fold_backward (overwritten_step x) (before ++ store ∷ rest) false) u.0 ∙ fold_stored x before store rest e u.1
 
-pub overwritten_fold : (x : ℕ) (q : List Visit) → IsOverwrittenFirst x q → fold_backward (overwritten_step x) q false ≡ true
+overwritten_fold : (x : ℕ) (q : List Visit) → IsOverwrittenFirst x q → fold_backward (overwritten_step x) q false ≡ true
 overwritten_fold x q o = ap (λ (p : List Visit). fold_backward (overwritten_step x) p false) o.is ∙ fold_stored x o.before o.store o.after o.stores o.untouched
 
-column-append : (x : ℕ) (xs ys : List (List ℕ)) → column x (xs ++ ys) ≡ column x xs ++ column x ys
-column-append x [] ys = refl
-column-append x (s ∷ xs) ys = ap (λ (bs : List Bool). has x s ∷ bs) (column-append x xs ys)
+pub keeps_order : KeepsOrder must_rank overwritten_change
+keeps_order = record { bounded = must_bounded; monotone = step_monotone }
 
-pub column-reverse : (x : ℕ) (sets : List (List ℕ)) → column x (reverse sets) ≡ reverse (column x sets)
-column-reverse x [] = refl
-column-reverse x (s ∷ sets) =
-    ap (column x) (reverse-append (s ∷ []) sets) ∙ column-append x (reverse sets) (s ∷ []) ∙ ap (λ (bs : List Bool). bs ++ has x s ∷ []) (column-reverse x sets) ∙ sym (reverse-append (has x s ∷ []) (column x sets))
-
-at_column : (x : ℕ) (sets : List (List ℕ)) (site : ℕ) → get_or (column x sets) site false ≡ has x (get_or sets site [])
-at_column x [] site = refl
-at_column x (s ∷ sets) zero = refl
-at_column x (s ∷ sets) (suc site) = at_column x sets site
-
-pub columns_overwritten : (t : Tree) (sets : List (List ℕ)) → ((x : ℕ) → column x sets ≡ after_sites x t false) → AreOverwritten t sets
-columns_overwritten t sets same site x h =
-    let least = after_least Bool must_rank 1 (overwritten_step x) (step_monotone x) must_bounded t false false site h in
-    let e : get_or (after Bool must_rank 1 (overwritten_step x) (placed 0 t) false) site false ≡ has x (get_or sets site []) = ap (λ (bs : List Bool). get_or bs site false) (after-placed Bool must_rank 1 (overwritten_change x) t 0 false ∙ sym (same x)) ∙ at_column x sets site in
-    let m = subst (λ b. IsMeetAfter must_rank (overwritten_step x) false (placed 0 t) site b) e least in
+pub sets_overwritten : (t : Tree) (end : List ℕ) (sets : List (List ℕ)) → end ≡ [] → AreMeetsAfter must_rank overwritten_change t end sets → AreOverwritten t sets
+sets_overwritten t end sets empty meets site x h =
+    let none : has x end ≡ false = ap (has x) empty in
+    let m = subst (λ (b : Bool). IsMeetAfter must_rank (overwritten_step x) b (placed 0 t) site (has x (get_or sets site []))) none (meets site x h) in
     let both = all_paths_after (overwritten_step x) false (placed 0 t) site (has x (get_or sets site [])) m in
     (λ yes_. λ q a. fold_overwritten x q (both.0 yes_ q a), λ f. both.1 (λ q a. overwritten_fold x q (f q a)))

@@ -5,7 +5,7 @@ use Rattle.il_syntax.specs.declared.statement.Stmt.TheOpen.{Skip, Copy, Compute,
 use Rattle.il_syntax.specs.Statements.{Head}
 use Rattle.il_syntax.specs.Checks.{head_fits}
 use Rattle.il_paths.specs.Tree.{Leaf, head_of_leaf, Tree, tree_of, heads_in, sites_of}
-use Rattle.il_paths.proofs.HeadsInOrder.{length-heads_in}
+use Rattle.il_paths.proofs.Callers.{length-heads_in, site_within}
 use Rattle.rewriting.proofs.Callers.{changed_is_one, changed_fits}
 use Rattle.dead_store.specs.Undead.{dropped_leaf}
 use Rattle.dead_store.specs.Laws.{UndeadIsOne, UndeadFits}
@@ -30,9 +30,6 @@ same_test : (p q : Bool) → (p ≡ true → q ≡ true) → (q ≡ true → p �
 same_test true q f g = sym (f refl)
 same_test false true f g = g refl
 same_test false false f g = refl
-
-site_within : (t : Tree) (site : ℕ) (head : Head) → slice_get (heads_in t) site ≡ Some head → site < sites_of t
-site_within t site head e = let h = slice_get_within (heads_in t) site head e in let n = length-heads_in t in omega arith
 
 pub undead_is_one : UndeadIsOne
 undead_is_one f g h p q =

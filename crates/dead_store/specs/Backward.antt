@@ -1,11 +1,8 @@
 -- What the walk from the end keeps: whether a location is overwritten first, from whether it is so after a
 -- statement. No public clause cites this file.
-use Rattle.std.specs.Prelude.{ℕ, Bool, true, false, if◌then◌else◌, List}
+use Rattle.std.specs.Prelude.{ℕ, Bool, true, false, if◌then◌else◌}
 use Rattle.il_syntax.specs.Statements.{Head}
 use Rattle.il_paths.specs.Code.{Visit}
-use Rattle.il_paths.specs.Tree.{Tree}
-use Rattle.path_meets.specs.TreeWalks.{enter_tree, after_tree}
-use Rattle.path_meets.specs.Chain.{must_rank}
 use Rattle.dead_store.specs.Overwritten.{stores_to, needs}
 
 abbrev pub overwritten_change : ℕ → Head → Bool → Bool
@@ -13,11 +10,3 @@ overwritten_change x head later = if stores_to x head then true else (if needs x
 
 abbrev pub overwritten_step : ℕ → Visit → Bool → Bool
 overwritten_step x v later = overwritten_change x v.head later
-
--- what is known before a tree
-abbrev pub before_tree : ℕ → Tree → Bool → Bool
-before_tree x tree later = enter_tree Bool must_rank 1 (overwritten_change x) tree later
-
--- and after each of its sites
-abbrev pub after_sites : ℕ → Tree → Bool → List Bool
-after_sites x tree later = after_tree Bool must_rank 1 (overwritten_change x) tree later

@@ -1,7 +1,7 @@
 -- Columns of the pairs that statements give are a table: every other pair is at nothing.
 use Rattle.std.proofs.Common.{◌≡◌, ℕ, ◌<◌, Bool, true, false, cond, ◌||◌, ◌==◌, List, [], ◌∷◌, ◌++◌, get_or, refl, sym, ap, ◌∙◌, subst, arith}
 use Rattle.std.specs.List.{list_any}
-use Rattle.std.proofs.lemmas.Bool.{eqb-true}
+use Rattle.std.proofs.lemmas.Bool.{eqb-true, and_parts, or_parts}
 use Rattle.std.proofs.lemmas.List.{get_or_default}
 use Rattle.il_syntax.specs.declared.statement.Atom.{Atom}
 use Rattle.il_paths.specs.Tree.{Tree, sites_of}
@@ -12,13 +12,15 @@ use Rattle.flow_facts.specs.declared.level.Level.{Level}
 use Rattle.flow_facts.specs.declared.level.Level.TheVariants.{Nothing, Held, Fresh}
 use Rattle.flow_facts.specs.declared.known.Known.{Known}
 use Rattle.flow_facts.specs.declared.walked.Column.{Column}
-use Rattle.flow_facts.specs.Levels.{atoms_equal, IsLevel}
+use Rattle.flow_facts.specs.Levels.{IsLevel}
+use Rattle.il_paths.specs.Atoms.{atoms_equal}
 use Rattle.flow_facts.specs.Rows.{higher, level_at, IsTable}
 use Rattle.flow_facts.specs.Rounds.{given_of}
 use Rattle.flow_facts.specs.Columns.{AreLevels, entry, level_by_columns}
 use Rattle.flow_facts.proofs.LevelLaws.{levels_are_one}
-use Rattle.flow_facts.proofs.RowLaws.{atoms_equal-true, both, higher-nothing, nothing-higher}
-use Rattle.flow_facts.proofs.GivenLaws.{is_given, or_false, never_given}
+use Rattle.flow_facts.proofs.RowLaws.{higher-nothing, nothing-higher}
+use Rattle.il_paths.proofs.Callers.{atoms_equal-true}
+use Rattle.flow_facts.proofs.GivenLaws.{is_given, never_given}
 
 abbrev pub Exact : Tree → Kind → List Column → Type 0
 Exact tree kind [] = Unit {0}
@@ -51,13 +53,13 @@ module _ (tree : Tree) (kind : Kind) (site x : ℕ) (a : Atom) where
   none_level : (cs : List Column) → listed cs ≡ false → level_by_columns cs site x a ≡ Nothing
   none_level [] e = refl
   none_level (c ∷ cs) e =
-      let p = or_false (is_given x a c.pair) (listed cs) e in
+      let p = or_parts (is_given x a c.pair) (listed cs) e in
       (λ i. higher (cond (p.0 i) (entry c site).level Nothing) (level_by_columns cs site x a)) ∙ nothing-higher (level_by_columns cs site x a) ∙ none_level cs p.1
 
   -- the level of the column's own pair
   own_level : (c : Column) → site < sites_of tree → AreLevels tree kind c.pair c.levels → is_given x a c.pair ≡ true → Is (entry c site).level
   own_level c h e is =
-      let p = both (c.pair.x == x) (atoms_equal a c.pair.a) is in
+      let p = and_parts (c.pair.x == x) (atoms_equal a c.pair.a) is in
       let d = get_or_default c.levels site Fresh Nothing (omega (arith, e.0)) in
       subst Is d
       (subst (λ (y : ℕ). IsLevel (placed 0 tree) site kind y a (get_or c.levels site Fresh)) (eqb-true c.pair.x x p.0)

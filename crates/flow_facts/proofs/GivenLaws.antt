@@ -1,7 +1,7 @@
 -- The pairs that statements give, one statement after the other; other pairs stay at nothing.
 use Rattle.std.proofs.Common.{◌≡◌, ℕ, zero, suc, Bool, true, false, cond, ◌&&◌, ◌||◌, ◌==◌, arith, ◌+◌, ◌<◌, ◌≤◌, List, [], ◌∷◌, ◌++◌, length, get_or, drop, refl, sym, ap, ◌∙◌, subst, append_assoc, append-nil}
 use Rattle.std.specs.List.{list_any}
-use Rattle.std.proofs.lemmas.Bool.{false≢true}
+use Rattle.std.proofs.lemmas.Bool.{false≢true, or_parts}
 use Rattle.std.proofs.lemmas.List.Folds.{list_any-append}
 use Rattle.il_syntax.specs.declared.statement.Stmt.{Stmt}
 use Rattle.il_syntax.specs.declared.statement.Atom.{Atom}
@@ -20,7 +20,8 @@ use Rattle.flow_facts.specs.declared.level.Level.{Level}
 use Rattle.flow_facts.specs.declared.level.Level.TheVariants.{Nothing, Held, Fresh}
 use Rattle.flow_facts.specs.declared.transfer.Transfer.{Transfer}
 use Rattle.flow_facts.specs.declared.transfer.Transfer.TheVariants.{Keeps, Becomes}
-use Rattle.flow_facts.specs.Levels.{rank_of, atoms_equal, stores_give, loads_give, after_transfer, synchronised, losing, level_change, level_step, IsLevel}
+use Rattle.flow_facts.specs.Levels.{rank_of, stores_give, loads_give, after_transfer, synchronised, losing, level_change, level_step, IsLevel}
+use Rattle.il_paths.specs.Atoms.{atoms_equal}
 use Rattle.flow_facts.specs.Rounds.{given_by, given_of}
 use Rattle.flow_facts.proofs.LevelLaws.{rank_bounded, rank_injective, step_monotone}
 
@@ -36,12 +37,8 @@ given_of-drop ss i s h e = ap given_of (tree_of-drop ss i s h e) ∙ given_of-pu
 abbrev pub is_given : ℕ → Atom → Pair → Bool
 is_given x a g = (g.x == x) && atoms_equal a g.a
 
-pub or_false : (p q : Bool) → (p || q) ≡ false → (p ≡ false) × (q ≡ false)
-or_false true q e = (absurd (false≢true (sym e)), absurd (false≢true (sym e)))
-or_false false q e = (refl, e)
-
 none_of : (p : Pair → Bool) (xs ys : List Pair) → list_any p (xs ++ ys) ≡ false → (list_any p xs ≡ false) × (list_any p ys ≡ false)
-none_of p xs ys e = or_false (list_any p xs) (list_any p ys) (sym (list_any-append p xs ys) ∙ e)
+none_of p xs ys e = or_parts (list_any p xs) (list_any p ys) (sym (list_any-append p xs ys) ∙ e)
 
 quiet_losing : (r : ℕ) (a : Atom) (other : Transfer) → after_transfer other Nothing ≡ Nothing → after_transfer (losing r a other) Nothing ≡ Nothing
 quiet_losing r a other e = go (atoms_equal a (Reg r))

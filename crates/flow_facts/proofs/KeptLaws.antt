@@ -14,9 +14,10 @@ use Rattle.flow_facts.specs.declared.level.Level.{Level}
 use Rattle.flow_facts.specs.declared.level.Level.TheVariants.{Nothing, Held, Fresh}
 use Rattle.flow_facts.specs.declared.transfer.Transfer.{Transfer}
 use Rattle.flow_facts.specs.declared.transfer.Transfer.TheVariants.{Keeps, Becomes}
-use Rattle.flow_facts.specs.Levels.{atoms_equal, stores_give, loads_give, after_transfer, synchronised, level_change}
+use Rattle.flow_facts.specs.Levels.{stores_give, loads_give, after_transfer, synchronised, level_change}
+use Rattle.il_paths.specs.Atoms.{atoms_equal}
 use Rattle.flow_facts.specs.Laws.{Kept, PairsAreMadeOrKept, LevelsComeFrom}
-use Rattle.flow_facts.proofs.RowLaws.{atoms_equal-true}
+use Rattle.il_paths.proofs.Callers.{atoms_equal-true}
 
 -- The same as a case distinction, for proofs that go by cases.
 pub data Came (x : ℕ) (a : Atom) (head : Head) (before after : Level) : Type 0 where

@@ -14,7 +14,8 @@ use Rattle.flow_facts.specs.declared.level.Level.{Level}
 use Rattle.flow_facts.specs.declared.level.Level.TheVariants.{Nothing, Held, Fresh}
 use Rattle.flow_facts.specs.declared.transfer.Transfer.{Transfer}
 use Rattle.flow_facts.specs.declared.transfer.Transfer.TheVariants.{Keeps, Becomes, Acquires, Releases, AcquiresAndReleases}
-use Rattle.flow_facts.specs.Levels.{rank_of, atoms_equal, stores_give, loads_give, after_transfer, losing, transfer_of, level_change, level_step}
+use Rattle.flow_facts.specs.Levels.{rank_of, stores_give, loads_give, after_transfer, losing, transfer_of, level_change, level_step}
+use Rattle.il_paths.specs.Atoms.{atoms_equal}
 use Rattle.flow_facts.specs.Laws.{BothKnowMore, LevelsGoStepByStep, LevelsAreLowest, LevelsExist, LevelsAreOne}
 
 pub rank_bounded : (a : Level) → rank_of a ≤ 2

@@ -1,10 +1,10 @@
-pub mod LevelLaws
-pub mod RowLaws
-pub mod KeptLaws
-pub mod TableLaws
-pub mod Round
-pub mod RoundSteps
-pub mod Settled
-pub mod GivenLaws
-pub mod ColumnLaws
+mod LevelLaws
+mod RowLaws
+mod KeptLaws
+mod TableLaws
+mod Round
+mod RoundSteps
+mod Settled
+mod GivenLaws
+mod ColumnLaws
 pub mod Callers

@@ -8,8 +8,7 @@ use Rattle.il_paths.specs.Tree.{Tree, sites_of}
 use Rattle.il_paths.specs.Code.{Visit, Code, End, Plain, Branch, Loop, placed}
 use Rattle.il_paths.specs.Meets.{IsMeetBefore}
 use Rattle.path_meets.specs.Walks.{meet, exit, table}
-use Rattle.path_meets.proofs.Forward.{least_is, least_rank, least_above, IsPostFixpoint, fits_below, fits_less, agrees_fits}
-use Rattle.path_meets.proofs.Tabled.{Inside, inside-placed, agrees-whole, table_least}
+use Rattle.path_meets.proofs.Callers.{least_is, least_rank, least_above, IsPostFixpoint, fits_below, fits_less, agrees_fits, Inside, inside-placed, agrees-whole, table_least}
 use Rattle.flow_facts.specs.Rounds.{brought, round}
 
 module _ (L : Type 0) (rank : L → ℕ) where

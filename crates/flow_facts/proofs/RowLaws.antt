@@ -1,31 +1,17 @@
 -- Rows as functions from pairs to levels: entries put to the end, and each entry's level changed.
 use Rattle.std.proofs.Common.{◌≡◌, ◌≤◌, ◌<◌, ℕ, suc, ◌+◌, Bool, true, false, cond, leb, ◌&&◌, ◌==◌, List, [], ◌∷◌, ◌++◌, length, get_or, drop, drop-cons, add-one, refl, sym, ap, subst, ◌∙◌, ◌⊎◌, inl, inr, ⊎_elim, arith}
-use Rattle.std.proofs.lemmas.Bool.{false≢true, eqb-true, eq-eqb, leb-true, leb-false}
-use Rattle.std.proofs.lemmas.Bool.Decides.{Decides-int_eq}
+use Rattle.std.proofs.lemmas.Bool.{eqb-true, leb-true, leb-false, and_parts}
 use Rattle.il_syntax.specs.declared.statement.Atom.{Atom}
-use Rattle.il_syntax.specs.declared.statement.Atom.TheVariants.{Const, Reg}
 use Rattle.path_meets.specs.Walks.{meet}
-use Rattle.path_meets.proofs.Forward.{least_rank, least_above}
+use Rattle.path_meets.proofs.Callers.{least_rank, least_above}
 use Rattle.flow_facts.specs.declared.level.Level.{Level}
 use Rattle.flow_facts.specs.declared.level.Level.TheVariants.{Nothing, Held, Fresh}
 use Rattle.flow_facts.specs.declared.known.Known.{Known}
-use Rattle.flow_facts.specs.Levels.{rank_of, atoms_equal}
+use Rattle.flow_facts.specs.Levels.{rank_of}
+use Rattle.il_paths.specs.Atoms.{atoms_equal}
+use Rattle.il_paths.proofs.Callers.{atoms_equal-true}
 use Rattle.flow_facts.specs.Rows.{higher, is_at, level_of, level_in, with_level}
 use Rattle.flow_facts.proofs.LevelLaws.{rank_injective}
-
-pub atoms_equal-true : (a b : Atom) → atoms_equal a b ≡ true → a ≡ b
-atoms_equal-true (Const m) (Const n) e = ap Const ((Decides-int_eq m n).0 e)
-atoms_equal-true (Const m) (Reg s) e = absurd (false≢true e)
-atoms_equal-true (Reg r) (Const n) e = absurd (false≢true e)
-atoms_equal-true (Reg r) (Reg s) e = ap Reg (eqb-true r s e)
-
-pub atoms_equal-refl : (a : Atom) → atoms_equal a a ≡ true
-atoms_equal-refl (Const m) = (Decides-int_eq m m).1 refl
-atoms_equal-refl (Reg r) = eq-eqb r r refl
-
-pub both : (p q : Bool) → (p && q) ≡ true → (p ≡ true) × (q ≡ true)
-both true q e = (refl, e)
-both false q e = absurd (false≢true e)
 
 pub higher-nothing : (l : Level) → higher l Nothing ≡ l
 higher-nothing Nothing = refl
@@ -93,7 +79,7 @@ level_in_said xs k e x a = go (is_at x a k) refl
   where
     go : (t : Bool) → is_at x a k ≡ t → level_in xs x a ≡ higher (level_in xs x a) (cond t k.level Nothing)
     go true is =
-        let p = both (k.x == x) (atoms_equal a k.a) is in
+        let p = and_parts (k.x == x) (atoms_equal a k.a) is in
         sym (subst (λ (b : Atom). higher (level_in xs x b) k.level ≡ level_in xs x b) (sym (atoms_equal-true a k.a p.1))
         (subst (λ (y : ℕ). higher (level_in xs y k.a) k.level ≡ level_in xs y k.a) (eqb-true k.x x p.0) e))
     go false is = sym (higher-nothing (level_in xs x a))
@@ -113,7 +99,7 @@ module _ (f : ℕ → Atom → Level → Level) (monotone : (x : ℕ) (a : Atom)
     where
       go : (t : Bool) → is_at x a k ≡ t → higher (higher known (cond t (f k.x k.a k.level) Nothing)) (f x a (level_in rest x a)) ≡ higher known (f x a (higher (cond t k.level Nothing) (level_in rest x a)))
       go true e =
-          let p = both (k.x == x) (atoms_equal a k.a) e in
+          let p = and_parts (k.x == x) (atoms_equal a k.a) e in
           ap (λ l. higher (higher known l) (f x a (level_in rest x a))) (λ i. f (eqb-true k.x x p.0 i) (sym (atoms_equal-true a k.a p.1) i) k.level)
           ∙ higher_assoc known (f x a k.level) (f x a (level_in rest x a))
           ∙ ap (higher known) (sym (higher_kept (f x a) (monotone x a) k.level (level_in rest x a)))

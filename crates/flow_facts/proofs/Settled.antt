@@ -3,7 +3,7 @@ use Rattle.std.proofs.Common.{◌≡◌, ◌≤◌, List, length, get_or, sum_by
 use Rattle.il_paths.specs.Tree.{Tree, sites_of}
 use Rattle.il_paths.specs.Code.{placed}
 use Rattle.path_meets.specs.Walks.{table}
-use Rattle.path_meets.proofs.Tabled.{inside-placed}
+use Rattle.path_meets.proofs.Callers.{inside-placed}
 use Rattle.flow_facts.specs.declared.given.Pair.{Pair}
 use Rattle.flow_facts.specs.declared.level.Kind.{Kind}
 use Rattle.flow_facts.specs.declared.level.Level.{Level}

@@ -1,33 +1,19 @@
 -- The least atom of a row, and of a table.
 use Rattle.std.proofs.Common.{◌≡◌, ◌≤◌, ◌<◌, ℕ, zero, suc, ◌+◌, Bool, true, false, cond, ◌&&◌, ◌==◌, List, [], ◌∷◌, length, get_or, drop, Option, Some, None, refl, sym, ap, ◌∙◌, subst, ◌⊎◌, inl, inr, ⊎_elim, arith}
 use Rattle.std.specs.Prelude.{◌≢◌, IfSome}
-use Rattle.std.proofs.lemmas.Bool.{eqb-true, eq-eqb}
-use Rattle.std.proofs.lemmas.Int.{ints}
+use Rattle.std.proofs.lemmas.Bool.{eqb-true, eq-eqb, and_parts}
 use Rattle.il_syntax.specs.declared.statement.Atom.{Atom}
-use Rattle.il_syntax.specs.declared.statement.Atom.TheVariants.{Const, Reg}
+use Rattle.il_paths.specs.Atoms.{AtMost, atoms_equal}
 use Rattle.il_paths.specs.Code.{placed}
+use Rattle.il_paths.proofs.Callers.{at_most_trans, at_most_both, atoms_equal-true, atoms_equal-refl}
 use Rattle.flow_facts.specs.declared.level.Level.{Level}
 use Rattle.flow_facts.specs.declared.level.Level.TheVariants.{Nothing, Held, Fresh}
 use Rattle.flow_facts.specs.declared.known.Known.{Known}
-use Rattle.flow_facts.specs.Levels.{rank_of, atoms_equal, IsLevel}
-use Rattle.flow_facts.specs.Rows.{higher, is_at, level_of, level_in, level_at, AtMost, HasAtMost, IsKnownOf, IsLeastIn}
+use Rattle.flow_facts.specs.Levels.{rank_of, IsLevel}
+use Rattle.flow_facts.specs.Rows.{higher, is_at, level_of, level_in, level_at, HasAtMost, IsKnownOf, IsLeastIn}
 use Rattle.flow_facts.specs.Laws.{BestIsOne, TablesTellTheBest}
 use Rattle.flow_facts.proofs.LevelLaws.{levels_are_one, above_nothing}
-use Rattle.flow_facts.proofs.RowLaws.{atoms_equal-true, atoms_equal-refl, both, higher_is, nothing-higher, items-at}
-
-pub at_most_trans : (a b c : Atom) → AtMost a b → AtMost b c → AtMost a c
-at_most_trans (Const m) (Const n) (Const k) f g = omega (arith, ints)
-at_most_trans (Const m) b (Reg s) f g = tt
-at_most_trans (Const m) (Reg r) (Const k) f g = absurd g
-at_most_trans (Reg r) (Const n) c f g = absurd f
-at_most_trans (Reg r) (Reg s) (Const k) f g = absurd g
-at_most_trans (Reg r) (Reg s) (Reg t) f g = omega arith
-
-pub at_most_both : (a b : Atom) → AtMost a b → AtMost b a → a ≡ b
-at_most_both (Const m) (Const n) f g = ap Const (omega (arith, ints))
-at_most_both (Const m) (Reg s) f g = absurd g
-at_most_both (Reg r) (Const n) f g = absurd f
-at_most_both (Reg r) (Reg s) f g = ap Reg (omega arith)
+use Rattle.flow_facts.proofs.RowLaws.{higher_is, nothing-higher, items-at}
 
 -- an entry is at its own place
 pub own : (k : Known) → level_of k k.x k.a ≡ k.level
@@ -85,7 +71,7 @@ lowest_step row rest x k best new first second low a h = ⊎_elim (λ g. inl (lo
     go : (t : Bool) → is_at x a k ≡ t → (higher (cond t k.level Nothing) (level_in rest x a) ≡ Nothing → ⊥) → HasAtMost new a ⊎ (level_in rest x a ≢ Nothing)
     go false e g = inr (λ n. g (nothing-higher (level_in rest x a) ∙ n))
     go true e g =
-        let p = both (k.x == x) (atoms_equal a k.a) e in
+        let p = and_parts (k.x == x) (atoms_equal a k.a) e in
         ⊎_elim
         (λ up. inl (subst (HasAtMost new) (sym (atoms_equal-true a k.a p.1)) (second (eqb-true k.x x p.0, up))))
         (λ later. inr later)

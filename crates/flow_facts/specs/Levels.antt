@@ -1,10 +1,10 @@
 -- The level of a pair of an na location and an atom, and what a statement does to it.
 use Rattle.std.specs.Prelude.{ℕ, Bool, true, false, ◌&&◌, ◌==◌, if◌then◌else◌, List}
-use Rattle.std.specs.Ordering.{int_eq}
 use Rattle.il_syntax.specs.declared.statement.Atom.{Atom}
-use Rattle.il_syntax.specs.declared.statement.Atom.TheVariants.{Const, Reg}
+use Rattle.il_syntax.specs.declared.statement.Atom.TheVariants.{Reg}
 use Rattle.il_syntax.specs.declared.statement.Stmt.TheOpen.{Skip, Copy, Compute, Load, Store, AtomicLoad, AtomicStore, Update, Fence, Print, If, While, Call}
 use Rattle.il_syntax.specs.Statements.{Head}
+use Rattle.il_paths.specs.Atoms.{atoms_equal}
 use Rattle.il_paths.specs.Code.{Visit, Code}
 use Rattle.il_paths.specs.Heads.{is_acquire, is_release}
 use Rattle.il_paths.specs.Meets.{fold_forward, IsMeetBefore}
@@ -20,12 +20,6 @@ abbrev pub rank_of : Level → ℕ
 rank_of Nothing = 0
 rank_of Held = 1
 rank_of Fresh = 2
-
-abbrev pub atoms_equal : Atom → Atom → Bool
-atoms_equal (Const m) (Const n) = int_eq m n
-atoms_equal (Const m) (Reg s) = false
-atoms_equal (Reg r) (Const n) = false
-atoms_equal (Reg r) (Reg s) = r == s
 
 -- whether stores, and whether loads give facts
 abbrev pub stores_give : Kind → Bool

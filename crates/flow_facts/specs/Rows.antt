@@ -1,14 +1,14 @@
 -- Rows: the pairs above nothing at a site. A pair that a row doesn't have is at nothing.
-use Rattle.std.specs.Prelude.{ℕ, ◌≡◌, ◌≢◌, ◌<◌, ◌≤◌, ◌≤ℤ◌, Bool, ◌&&◌, ◌==◌, nat_le, if◌then◌else◌, List, [], ◌∷◌, map, Option, MatchOption, slice_index_or}
+use Rattle.std.specs.Prelude.{ℕ, ◌≡◌, ◌≢◌, ◌<◌, Bool, ◌&&◌, ◌==◌, nat_le, if◌then◌else◌, List, [], ◌∷◌, map, Option, MatchOption, slice_index_or}
 use Rattle.il_syntax.specs.declared.statement.Atom.{Atom}
-use Rattle.il_syntax.specs.declared.statement.Atom.TheVariants.{Const, Reg}
+use Rattle.il_paths.specs.Atoms.{AtMost, atoms_equal}
 use Rattle.il_paths.specs.Tree.{Tree, sites_of}
 use Rattle.il_paths.specs.Code.{Code, placed}
 use Rattle.flow_facts.specs.declared.level.Kind.{Kind}
 use Rattle.flow_facts.specs.declared.level.Level.{Level}
 use Rattle.flow_facts.specs.declared.level.Level.TheVariants.{Nothing}
 use Rattle.flow_facts.specs.declared.known.Known.{Known}
-use Rattle.flow_facts.specs.Levels.{rank_of, atoms_equal, IsLevel}
+use Rattle.flow_facts.specs.Levels.{rank_of, IsLevel}
 
 -- the higher of two levels
 abbrev pub higher : Level → Level → Level
@@ -41,13 +41,6 @@ column x a rows = map (λ row. level_in row x a) rows
 -- each level is the least over all paths, of every pair, those that no statement gives among them
 abbrev pub IsTable : Tree → Kind → List (List Known) → Type 0
 IsTable tree kind rows = (site x : ℕ) (a : Atom) → site < sites_of tree → IsLevel (placed 0 tree) site kind x a (level_at rows site x a)
-
--- constants by value before registers by number
-abbrev pub AtMost : Atom → Atom → Type 0
-AtMost (Const m) (Const n) = m ≤ℤ n
-AtMost (Const m) (Reg s) = Unit {0}
-AtMost (Reg r) (Const n) = ⊥
-AtMost (Reg r) (Reg s) = r ≤ s
 
 -- the pair's level before the site is above nothing
 abbrev pub IsAboveNothing : Code → ℕ → Kind → ℕ → Atom → Type 0

@@ -8,7 +8,7 @@ use sqlite_items::Items;
 use values_undef::NoMemory;
 
 /// A location and an atom.
-#[derive(Clone, Copy, Debug)]
+#[derive(Clone, Copy)]
 pub struct Pair {
     pub x: u32,
     pub a: Atom,

@@ -20,7 +20,7 @@ use std::alloc::Global;
 use values_undef::NoMemory;
 
 /// A pair of an na location and an atom, and its level.
-#[derive(Clone, Copy, Debug)]
+#[derive(Clone, Copy)]
 pub struct Known {
     pub x: u32,
     pub a: Atom,

@@ -20,4 +20,4 @@ pub use known::{Known, Row, level_in, meet_rows, push_known, row_after};
 pub use level::{Kind, Level};
 pub use table::{Facts, Table};
 pub use transfer::Transfer;
-pub use walked::Walked;
+pub use walked::{Walked, walked_may_be_shared};

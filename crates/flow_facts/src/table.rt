@@ -2,17 +2,18 @@
 ghost use Rattle.std.specs.Prelude.{◌≡◌, ◌≤◌, ◌⊎◌, ◌↔◌, IfSome, IsTrue, IfOk, slice_index_or, []};
 ghost use Rattle.il_syntax.specs.Statements.{site_count};
 ghost use Rattle.il_paths.specs.Tree.{tree_of};
-ghost use Rattle.flow_facts.specs.Rows.{level_at, IsTable, AtMost, HasAtMost, IsKnownOf, IsLeastKnown, IsLeastIn};
+ghost use Rattle.flow_facts.specs.Rows.{level_at, IsTable, HasAtMost, IsKnownOf, IsLeastKnown, IsLeastIn};
 
 use crate::known::{Known, Row, level_in};
 use crate::level::{Kind, Level};
+use il_paths::lower_atom;
 use il_syntax::{Atom, Function};
 use sqlite_items::Items;
 use std::alloc::Global;
 use std::marker::Model;
 use values_undef::NoMemory;
 
-/// The pairs above nothing before each site. Beyond the sites every pair is at nothing.
+/// The pairs above nothing before each site.
 #[derive(Drop)]
 pub struct Table {
     rows: Items<Row>,
@@ -80,34 +81,10 @@ impl Known {
         ensures second { IsKnownOf self.now x → HasAtMost result self.now.a }
     {
         if self.x == x && self.level != Level::Nothing {
-            Some(lower(self.a, best))
+            Some(lower_atom(self.a, best))
         } else {
             best
         }
-    }
-}
-
-/// Whether the one comes no later: constants by value before registers by number.
-fn is_at_most(a: Atom, b: Atom) -> bool
-    ensures { IsTrue result ↔ AtMost a b }
-{
-    match (a, b) {
-        (Atom::Const(m), Atom::Const(n)) => m <= n,
-        (Atom::Const(_), Atom::Reg(_)) => true,
-        (Atom::Reg(_), Atom::Const(_)) => false,
-        (Atom::Reg(r), Atom::Reg(s)) => r <= s,
-    }
-}
-
-/// The lower of an atom and another, if there is one.
-fn lower(a: Atom, other: Option<Atom>) -> Atom
-    ensures one { (result ≡ a) ⊎ (other ≡ Some result) }
-    ensures first { AtMost result a }
-    ensures second { IfSome other (AtMost result) }
-{
-    match other {
-        Some(b) if is_at_most(b, a) => b,
-        _ => a,
     }
 }
 

@@ -12,7 +12,7 @@ use il_paths::{acquires, releases};
 use il_syntax::{Atom, Stmt};
 
 /// What a statement, a block or a loop does to the level of a pair.
-#[derive(Clone, Copy, Debug, PartialEq, Eq)]
+#[derive(Clone, Copy)]
 pub enum Transfer {
     Keeps,
     Becomes(Level),

@@ -25,7 +25,7 @@ use std::alloc::Global;
 use values_undef::NoMemory;
 
 /// Finds the levels of one pair after another, by rounds over the function until no level falls.
-#[derive(Clone, Copy, Debug)]
+#[derive(Clone, Copy)]
 pub struct Walked;
 
 impl Facts for Walked {
@@ -39,6 +39,13 @@ impl Facts for Walked {
         }
         Ok(Table::new(rows_of(alloc, columns.as_slice(), count)?))
     }
+}
+
+fn may_be_shared<T: Sync>(_facts: &T) {}
+
+/// Threads may share it.
+pub fn walked_may_be_shared(facts: &Walked) {
+    may_be_shared(facts);
 }
 
 /// A pair and its level before each site.
@@ -154,7 +161,7 @@ fn bring_down(levels: &mut [Level], site: u32, level: Level) -> Level
 }
 
 /// What is known after statements, and the site after them.
-#[derive(Clone, Copy, Debug)]
+#[derive(Clone, Copy)]
 struct After {
     level: Level,
     site: u32,

@@ -18,7 +18,7 @@ use values_undef::NoMemory;
 
 /// Finds the levels of all pairs in one walk, with one summary for each pair at each loop. Its cost grows
 /// with the sites, the pairs above nothing there, and how deep the site lies in loops.
-#[derive(Clone, Copy, Debug)]
+#[derive(Clone, Copy)]
 pub struct Summed;
 
 impl Facts for Summed {

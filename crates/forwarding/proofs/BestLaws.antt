@@ -1,47 +1,16 @@
 -- The least atom of a row is one, and the function finds it.
-use Rattle.std.proofs.Common.{◌≡◌, ℕ, Bool, true, false, cond, ◌&&◌, ◌==◌, List, [], ◌∷◌, Option, Some, None, refl, sym, ap, ◌∙◌, subst, ◌⊎◌, inl, inr, ⊎_elim, arith, ◌≤ℤ◌, ℤ}
-use Rattle.std.specs.Prelude.{◌≢◌, int_le}
-use Rattle.std.proofs.lemmas.Bool.{false≢true, eqb-true, leb-true, leb-false}
-use Rattle.std.proofs.lemmas.Int.{ints}
+use Rattle.std.proofs.Common.{◌≡◌, ℕ, Bool, true, false, cond, ◌&&◌, ◌==◌, List, [], ◌∷◌, Option, Some, None, refl, sym, ap, ◌∙◌, subst, ◌⊎◌, inl, inr, ⊎_elim}
+use Rattle.std.specs.Prelude.{◌≢◌}
+use Rattle.std.proofs.lemmas.Bool.{false≢true, eqb-true, and_parts}
 use Rattle.il_syntax.specs.declared.statement.Atom.{Atom}
-use Rattle.il_syntax.specs.declared.statement.Atom.TheVariants.{Const, Reg}
 use Rattle.flow_facts.specs.declared.level.Level.{Level}
 use Rattle.flow_facts.specs.declared.level.Level.TheVariants.{Nothing, Held, Fresh}
 use Rattle.flow_facts.specs.declared.known.Known.{Known}
-use Rattle.flow_facts.specs.Levels.{atoms_equal}
-use Rattle.flow_facts.specs.Rows.{higher, is_at, level_of, level_in, AtMost, IsLeastIn}
-use Rattle.flow_facts.proofs.Callers.{at_most_trans, at_most_both, own, atoms_equal-true, nothing-higher}
-use Rattle.forwarding.specs.BestOf.{comes_first, is_above, first_of, best_of}
-
-le_true : (m n : ℤ) → int_le m n ≡ true → m ≤ℤ n
-le_true m n e = grind (arith, ints)
-
-le_false : (m n : ℤ) → int_le m n ≡ false → n ≤ℤ m
-le_false m n e = grind (arith, ints)
-
-first_true : (a b : Atom) → comes_first a b ≡ true → AtMost a b
-first_true (Const m) (Const n) e = le_true m n e
-first_true (Const m) (Reg s) e = tt
-first_true (Reg r) (Const n) e = absurd (false≢true e)
-first_true (Reg r) (Reg s) e = leb-true r s e
-
-first_false : (a b : Atom) → comes_first a b ≡ false → AtMost b a
-first_false (Const m) (Const n) e = le_false m n e
-first_false (Const m) (Reg s) e = absurd (false≢true (sym e))
-first_false (Reg r) (Const n) e = tt
-first_false (Reg r) (Reg s) e = let l = leb-false r s e in omega (arith, l)
-
-at_most_self : (a : Atom) → AtMost a a
-at_most_self (Const m) = omega (arith, ints)
-at_most_self (Reg r) = omega arith
-
--- the lower of two is one of them, and at most both
-lower_is : (a b : Atom) → ((first_of a (Some b) ≡ a) × AtMost a b) ⊎ ((first_of a (Some b) ≡ b) × AtMost b a)
-lower_is a b = go (comes_first a b) refl
-  where
-    go : (t : Bool) → comes_first a b ≡ t → ((cond t a b ≡ a) × AtMost a b) ⊎ ((cond t a b ≡ b) × AtMost b a)
-    go true e = inl (refl, first_true a b e)
-    go false e = inr (refl, first_false a b e)
+use Rattle.il_paths.specs.Atoms.{atoms_equal, AtMost, first_of}
+use Rattle.flow_facts.specs.Rows.{higher, is_at, level_of, level_in, IsLeastIn}
+use Rattle.flow_facts.proofs.Callers.{own, nothing-higher}
+use Rattle.il_paths.proofs.Callers.{at_most_trans, at_most_both, atoms_equal-true, at_most_self, lower_is}
+use Rattle.forwarding.specs.BestOf.{is_above, best_of}
 
 above_yes : (l : Level) → is_above l ≡ true → l ≢ Nothing
 above_yes Nothing e = absurd (false≢true e)
@@ -77,10 +46,6 @@ one_up Nothing m f = inr (λ e. f (nothing-higher m ∙ e))
 one_up Held m f = inl (λ e. cc)
 one_up Fresh m f = inl (λ e. cc)
 
-and_both : (p q : Bool) → (p && q) ≡ true → (p ≡ true) × (q ≡ true)
-and_both true q e = (refl, e)
-and_both false q e = absurd (false≢true e)
-
 -- an entry that isn't of the location, or is at nothing, says nothing
 silent : (k : Known) (x : ℕ) (a : Atom) → ((k.x == x) && is_above k.level) ≡ false → level_of k x a ≡ Nothing
 silent k x a e = go (k.x == x) refl (atoms_equal a k.a) e
@@ -95,7 +60,7 @@ spoken : (k : Known) (x : ℕ) (a : Atom) → level_of k x a ≢ Nothing → a �
 spoken k x a f = go (is_at x a k) refl f
   where
     go : (t : Bool) → is_at x a k ≡ t → (cond t k.level Nothing ≡ Nothing → ⊥) → a ≡ k.a
-    go true e g = atoms_equal-true a k.a (and_both (k.x == x) (atoms_equal a k.a) e).1
+    go true e g = atoms_equal-true a k.a (and_parts (k.x == x) (atoms_equal a k.a) e).1
     go false e g = absurd (g refl)
 
 spoken_own : (k : Known) (x : ℕ) → (k.x == x) ≡ true → is_above k.level ≡ true → level_of k x k.a ≢ Nothing
@@ -103,7 +68,7 @@ spoken_own k x e f = subst (λ y. level_of k y k.a ≢ Nothing) (eqb-true k.x x 
 
 more_by_one : (k : Known) (more : List Known) (x : ℕ) → ((k.x == x) && is_above k.level) ≡ true → (best : Option Atom) → IsLeastIn more x best → IsLeastIn (k ∷ more) x (Some (first_of k.a best))
 more_by_one k more x e None h =
-    let p = and_both (k.x == x) (is_above k.level) e in (
+    let p = and_parts (k.x == x) (is_above k.level) e in (
       first_up (level_of k x k.a) (level_in more x k.a) (spoken_own k x p.0 p.1),
       λ a up. ⊎_elim
           (λ here. subst (AtMost k.a) (sym (spoken k x a here)) (at_most_self k.a))
@@ -111,7 +76,7 @@ more_by_one k more x e None h =
           (one_up (level_of k x a) (level_in more x a) up),
     )
 more_by_one k more x e (Some b) h =
-    let p = and_both (k.x == x) (is_above k.level) e in
+    let p = and_parts (k.x == x) (is_above k.level) e in
     ⊎_elim
     (λ l. (
       subst (λ c. level_in (k ∷ more) x c ≢ Nothing) (sym l.0) (first_up (level_of k x k.a) (level_in more x k.a) (spoken_own k x p.0 p.1)),

@@ -14,8 +14,9 @@ use Rattle.il_paths.specs.Tree.{Leaf, head_of_leaf, Tree, tree_of, sites_of, hea
 use Rattle.il_paths.specs.Code.{Visit, Code, End, Plain, Branch, Loop, placed, first, first_head, go, AllCode}
 use Rattle.il_paths.specs.Paths.{RunsTo}
 use Rattle.il_paths.specs.Meets.{fold_forward}
-use Rattle.il_paths.proofs.Callers.{heads_agree, all_heads_of, runs_step, before_reaches, all_placed, all_first, all_go}
-use Rattle.rewriting.proofs.Callers.{changed_fits}
+use Rattle.il_paths.proofs.Callers.{heads_agree, all_heads_of, runs_step, before_reaches, all_placed, all_first, all_go, site_within}
+use Rattle.rewriting.specs.Kinds.{unchanged}
+use Rattle.rewriting.proofs.Callers.{each_rewritten, changed_fits}
 use Rattle.flow_facts.specs.declared.level.Kind.{Kind}
 use Rattle.flow_facts.specs.declared.level.Level.{Level}
 use Rattle.flow_facts.specs.declared.level.Level.TheVariants.{Nothing}
@@ -24,7 +25,6 @@ use Rattle.flow_facts.specs.Rows.{IsBest}
 use Rattle.flow_facts.proofs.Callers.{Came, by_store, by_load, kept, came, levels_exist}
 use Rattle.forwarding.specs.Forwarded.{copy_or_load, forwarded_leaf, IsForwarded}
 use Rattle.forwarding.specs.Laws.{ForwardedFits}
-use Rattle.forwarding.proofs.ForwardLaws.{site_within}
 
 module _ (registers functions : ℕ) (kind : Kind) (x : ℕ) (a : Atom) where
   abbrev Exist : Head → Type 0
@@ -88,19 +88,17 @@ module _ (kind : Kind) (d : Declared) (f g : Function) (fits : IsFunctionWellFor
       and_from (nat_lt r registers && atom_exists registers a) true (and_from (nat_lt r registers) (atom_exists registers a) there (best_exists site x a h is)) refl
 
   each_fits : (site : ℕ) (leaf : Leaf) → slice_get (heads_in tree) site ≡ Some (head_of_leaf leaf) → fitting (head_of_leaf leaf) ≡ true → fitting (head_of_leaf (forwarded_leaf (forwarded.best site) leaf)) ≡ true
-  each_fits site Skip at e = e
-  each_fits site (Copy r a) at e = e
-  each_fits site (Compute r op a b) at e = e
-  each_fits site (Load r x) at e = copy_fits site r x (forwarded.best site x) (site_within tree site (Load r x) at) (forwarded.is_best site r x at) e
-  each_fits site (Store x a) at e = e
-  each_fits site (AtomicLoad r order y) at e = e
-  each_fits site (AtomicStore order y a) at e = e
-  each_fits site (Update r order y update) at e = e
-  each_fits site (Fence order) at e = e
-  each_fits site (Print a) at e = e
-  each_fits site (If a first second) at e = absurd first
-  each_fits site (While a body) at e = absurd body
-  each_fits site (Call r function args) at e = e
+  each_fits site =
+      each_rewritten (λ leaf new. slice_get (heads_in tree) site ≡ Some (head_of_leaf leaf) → fitting (head_of_leaf leaf) ≡ true → fitting (head_of_leaf new) ≡ true)
+      (record unchanged { load = λ r x. copy_or_load (forwarded.best site x) r x })
+      (record {
+        skip = λ at e. e;
+        copy = λ r a at e. e;
+        compute = λ r op a b at e. e;
+        load = λ r x at e. copy_fits site r x (forwarded.best site x) (site_within tree site (Load r x) at) (forwarded.is_best site r x at) e;
+        store = λ x a at e. e;
+        other = λ leaf at e. e;
+      })
 
 pub forwarded_fits : ForwardedFits
 forwarded_fits kind d f g fits forwarded =

@@ -1,4 +1,4 @@
-pub mod BestLaws
-pub mod ForwardLaws
-pub mod ForwardFits
+mod BestLaws
+mod ForwardLaws
+mod ForwardFits
 pub mod Callers

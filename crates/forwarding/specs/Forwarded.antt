@@ -1,10 +1,11 @@
 -- A function whose na loads became copies of the least atom that is known there.
 use Rattle.std.specs.Prelude.{◌≡◌, ℕ, Option, Some, None, slice_get}
 use Rattle.il_syntax.specs.declared.statement.Atom.{Atom}
-use Rattle.il_syntax.specs.declared.statement.Stmt.TheOpen.{Skip, Copy, Compute, Load, Store, AtomicLoad, AtomicStore, Update, Fence, Print, If, While, Call}
+use Rattle.il_syntax.specs.declared.statement.Stmt.TheOpen.{Copy, Load}
 use Rattle.il_syntax.specs.declared.program.Function.{Function}
 use Rattle.il_paths.specs.Tree.{Leaf, tree_of, heads_in}
 use Rattle.il_paths.specs.Code.{placed}
+use Rattle.rewriting.specs.Kinds.{unchanged, rewritten_leaf}
 use Rattle.rewriting.specs.Changed.{IsChanged}
 use Rattle.flow_facts.specs.declared.level.Kind.{Kind}
 use Rattle.flow_facts.specs.Rows.{IsBest}
@@ -16,19 +17,7 @@ copy_or_load (Some a) r x = Copy r a
 
 -- an na load becomes a copy where its location has an atom, and every other statement stays
 abbrev pub forwarded_leaf : (ℕ → Option Atom) → Leaf → Leaf
-forwarded_leaf best Skip = Skip
-forwarded_leaf best (Copy r a) = Copy r a
-forwarded_leaf best (Compute r op a b) = Compute r op a b
-forwarded_leaf best (Load r x) = copy_or_load (best x) r x
-forwarded_leaf best (Store x a) = Store x a
-forwarded_leaf best (AtomicLoad r order y) = AtomicLoad r order y
-forwarded_leaf best (AtomicStore order y a) = AtomicStore order y a
-forwarded_leaf best (Update r order y kind) = Update r order y kind
-forwarded_leaf best (Fence order) = Fence order
-forwarded_leaf best (Print a) = Print a
-forwarded_leaf best (If a yes_block no_block) = absurd yes_block
-forwarded_leaf best (While a body) = absurd body
-forwarded_leaf best (Call r function args) = Call r function args
+forwarded_leaf best = rewritten_leaf (record unchanged { load = λ r x. copy_or_load (best x) r x })
 
 -- g is f forwarded in this kind: each na load whose location has an atom above nothing there, over all
 -- paths through f, is a copy of the least one, and all else stays. So all sites are decided on f.

@@ -1,4 +1,4 @@
-pub mod Steps
-pub mod Numbered
-pub mod Fits
-pub mod WellFormed
+mod Steps
+mod Numbered
+mod Fits
+mod WellFormed

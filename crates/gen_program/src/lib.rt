@@ -2,9 +2,10 @@
 //!
 //! A program has four non-atomic locations, two atomic ones, and functions of 64 draws each, by the words of
 //! one generator of random numbers (O'Neill, "PCG: a family of simple fast space-efficient statistically good
-//! algorithms for random number generation"). Each function has a location of its own among the four, so that
-//! no access of its threads is a race that would end a run. What stands for which word is
-//! `specs/Generated.antt`, to be read first.
+//! algorithms for random number generation"). Each thread's function has a location of its own among the four, so
+//! that no access of a thread is a race that would end a run, and no loop turns more than three times: that no run
+//! fails and each ends is seen, and isn't proved. What stands for which word is `specs/Generated.antt`, to be read
+//! first.
 #![tactic(auto)]
 
 mod draw;

@@ -24,7 +24,7 @@ const LIMIT: u64 = i64::MAX as u64;
 const NEGATIVE_LIMIT: u64 = i64::MAX as u64 + 1;
 
 /// A word that the right side of an assignment begins with.
-#[derive(Clone, Copy, Debug, PartialEq, Eq)]
+#[derive(Clone, Copy)]
 pub enum RightWord {
     Load,
     Add,
@@ -34,7 +34,7 @@ pub enum RightWord {
 }
 
 /// What stands behind the name that a statement begins with.
-#[derive(Clone, Copy, Debug, PartialEq, Eq)]
+#[derive(Clone, Copy)]
 pub enum BehindName {
     Equals,
     /// The order of a fence, of which the name is the word.

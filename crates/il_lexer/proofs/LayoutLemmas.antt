@@ -2,6 +2,7 @@
 use Rattle.std.proofs.Common.{◌≡◌, ℕ, ◌+◌, List, [], ◌∷◌, ◌++◌, length, Bool, true, false, not, ◌||◌, ◌==◌, codes, refl, sym, ap, ◌∙◌, subst, arith}
 use Rattle.std.proofs.lemmas.Bool.Decides.{nat_tests}
 use Rattle.std.specs.List.{list_all, list_any}
+use Rattle.std.proofs.lemmas.Bool.{not-true}
 use Rattle.il_lexer.specs.declared.token.Token.{Token}
 use Rattle.il_lexer.specs.declared.token.TokenKind.{TokenKind}
 use Rattle.il_lexer.specs.declared.token.TokenKind.TheVariants.{Word, Number, Symbol}
@@ -24,10 +25,6 @@ double_no_digit_false b c d = grind (arith, nat_tests)
 same_byte : (s b : ℕ) → (s == b) ≡ true → s ≡ b
 same_byte s b e = grind (arith, nat_tests)
 
-pub not_true : (b : Bool) → not b ≡ true → b ≡ false
-not_true true e = absurd (cc)
-not_true false e = refl
-
 -- what holds of each byte of a list holds of one that is among them
 among_step : (p : ℕ → Bool) (b x : ℕ) (xs : List ℕ) (t : Bool) → (x == b) ≡ t → (x == b) || list_any (λ s. s == b) xs ≡ true → (p x ≡ true) × (list_all p xs ≡ true) → (list_any (λ s. s == b) xs ≡ true → list_all p xs ≡ true → p b ≡ true) → p b ≡ true
 among_step p b x xs true e any all rest = subst (λ y. p y ≡ true) (same_byte x b e) all.0
@@ -38,10 +35,10 @@ among p b [] any all = absurd (cc)
 among p b (x ∷ xs) any all = among_step p b x xs (x == b) refl any (both (p x) (list_all p xs) all) (among p b xs)
 
 pub single_no_letter : (b : ℕ) → is_single b ≡ true → is_letter b ≡ false
-single_no_letter b s = not_true (is_letter b) (among (λ c. not (is_letter c)) b (codes "(){},;=+-*/%&|^<") s refl)
+single_no_letter b s = not-true (is_letter b) (among (λ c. not (is_letter c)) b (codes "(){},;=+-*/%&|^<") s refl)
 
 pub single_no_digit : (b : ℕ) → is_single b ≡ true → is_digit b ≡ false
-single_no_digit b s = not_true (is_digit b) (among (λ c. not (is_digit c)) b (codes "(){},;=+-*/%&|^<") s refl)
+single_no_digit b s = not-true (is_digit b) (among (λ c. not (is_digit c)) b (codes "(){},;=+-*/%&|^<") s refl)
 
 word_stops : (text rest : List ℕ) → IsSeparated Word text rest → StopsTest is_word_byte rest
 word_stops text [] h = tt

@@ -2,6 +2,7 @@
 use Rattle.std.proofs.Common.{◌≡◌, ◌≢◌, ℕ, ◌+◌, List, [], ◌∷◌, ◌++◌, length, true, false, not, codes, refl, sym, ap, ◌∙◌, subst, arith}
 use Rattle.std.proofs.lemmas.Bool.Decides.{nat_tests}
 use Rattle.std.specs.List.{list_all}
+use Rattle.std.proofs.lemmas.Bool.{not-true}
 use Rattle.il_lexer.specs.declared.token.Token.{Token}
 use Rattle.il_lexer.specs.declared.token.TokenKind.{TokenKind}
 use Rattle.il_lexer.specs.declared.token.TokenKind.TheVariants.{Word, Number, Symbol}
@@ -9,7 +10,7 @@ use Rattle.il_syntax.specs.Name.{is_letter, is_digit}
 use Rattle.il_lexer.specs.Lexeme.{is_single, is_double, is_lexeme, IsLongest}
 use Rattle.il_lexer.specs.Text.{is_blank, in_line, EndsLine, Rest, Lexes, ended, unknown, blank, comment, token}
 use Rattle.il_lexer.proofs.Longest.{both, clash, letter_no_digit, double_no_letter, double_no_digit}
-use Rattle.il_lexer.proofs.LayoutLemmas.{among, not_true, single_no_letter, single_no_digit}
+use Rattle.il_lexer.proofs.LayoutLemmas.{among, single_no_letter, single_no_digit}
 
 -- how two ways to cut a list lie to each other
 pub data Cuts : List ℕ → List ℕ → List ℕ → List ℕ → Type 0 where
@@ -79,7 +80,7 @@ double_no_blank : (b c : ℕ) → is_double b c ≡ true → is_blank b ≡ fals
 double_no_blank b c d = grind (arith, nat_tests)
 
 single_no_blank : (b : ℕ) → is_single b ≡ true → is_blank b ≡ false
-single_no_blank b s = not_true (is_blank b) (among (λ c. not (is_blank c)) b (codes "(){},;=+-*/%&|^<") s refl)
+single_no_blank b s = not-true (is_blank b) (among (λ c. not (is_blank c)) b (codes "(){},;=+-*/%&|^<") s refl)
 
 letter_no_hash : (b : ℕ) → is_letter b ≡ true → b ≢ 35
 letter_no_hash b l e = clash (is_letter b) l (ap is_letter e)

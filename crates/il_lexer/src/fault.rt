@@ -4,7 +4,7 @@ ghost use Rattle.std.specs.Prelude.{◌≡◌};
 ghost use Rattle.il_lexer.specs.declared.fault.LexFault.TheVariants as faults;
 
 /// Why the tokens of a text are not answered.
-#[derive(Clone, Copy, Debug, PartialEq, Eq)]
+#[derive(Clone, Copy)]
 pub enum LexFault {
     /// A byte that no text has stands here; it is the first.
     Byte { at: u32 },

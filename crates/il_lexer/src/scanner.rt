@@ -12,7 +12,7 @@ use std::alloc::Global;
 use values_undef::NoMemory;
 
 /// The tokens of a text, and the first byte that begins none, if there is one.
-#[derive(Debug, Drop)]
+#[derive(Drop)]
 pub struct Lexed {
     pub tokens: Tokens,
     pub unknown: Option<u32>,

@@ -5,7 +5,7 @@ ghost use Rattle.std.specs.Prelude.{◌≡◌};
 use std::marker::Model;
 
 /// What a token is spelled with.
-#[derive(Clone, Copy, Debug, PartialEq, Eq)]
+#[derive(Clone, Copy, PartialEq, Eq)]
 pub enum TokenKind {
     Word,
     Number,
@@ -13,7 +13,7 @@ pub enum TokenKind {
 }
 
 /// A token, by the places of its first byte and of the byte after its last.
-#[derive(Clone, Copy, Debug, PartialEq, Eq)]
+#[derive(Clone, Copy, PartialEq, Eq)]
 pub struct Token {
     pub kind: TokenKind,
     pub start: u32,
@@ -21,7 +21,7 @@ pub struct Token {
 }
 
 /// Tokens in the order of the text, which contracts see as a list.
-#[derive(Debug, Drop)]
+#[derive(Drop)]
 pub struct Tokens {
     pub tokens: Vec<Token>,
 }

@@ -6,4 +6,5 @@ mod Total
 mod Words
 mod Fences
 mod Places
+mod Answered
 pub mod Callers

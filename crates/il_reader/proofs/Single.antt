@@ -1,22 +1,18 @@
 -- A text has one meaning or one refusal.
-use Rattle.std.proofs.Common.{◌≡◌, ℕ, List, ◌-◌, length, Option, Some, None, Result, Ok, Err, IfOk, IfErr, MatchResult, refl, sym, ap, ◌∙◌, subst}
+use Rattle.std.proofs.Common.{◌≡◌, ℕ, List, ◌-◌, length, Option, Some, None, refl, sym, ap, ◌∙◌, subst}
 use Rattle.token_machine.specs.Text.{Spells, IsFirstFault}
 use Rattle.token_machine.proofs.Callers.{one_tree, one_fault, spelled_faultless}
 use Rattle.il_lexer.specs.declared.token.Token.{Token}
 use Rattle.il_lexer.specs.Text.{Rest, Lexes}
 use Rattle.il_lexer.proofs.Callers.{one_reading}
 use Rattle.il_grammar.specs.declared.syntax.Span.{Span}
-use Rattle.il_grammar.specs.declared.syntax.RawText.{RawText}
 use Rattle.il_grammar.specs.declared.rule.Rule.{Rule}
 use Rattle.il_grammar.specs.declared.rule.Rule.TheVariants.{P1, P2, P3}
 use Rattle.il_grammar.specs.Grammar.{TextTree, spelling}
-use Rattle.il_grammar.specs.Reading.{text_tree_of}
 use Rattle.il_grammar.proofs.Callers.{reads, no_place}
-use Rattle.il_reader.specs.declared.fault.ParseFault.{ParseFault}
-use Rattle.il_reader.specs.declared.fault.ParseFault.TheVariants as faults
 use Rattle.il_reader.specs.Terminals.{terminals_of, after_header, has_fences}
-use Rattle.il_reader.specs.Refusal.{Refusal, refusal_at, IfRefused}
-use Rattle.il_reader.specs.Text.{starts, place_at, Writes, IsFormRefusal, foreign, headless, faulty, IsAnswer}
+use Rattle.il_reader.specs.Refusal.{Refusal, refusal_at}
+use Rattle.il_reader.specs.Text.{starts, place_at, Writes, IsFormRefusal, foreign, headless, faulty}
 
 clash : {X : Type 0} (x : X) (o : Option X) → o ≡ Some x → o ≡ None → ⊥
 clash x o e n = cc
@@ -45,7 +41,7 @@ module _ (bytes : List ℕ) where
       q.spelled
 
   -- and are not refused then
-  pub written_unrefused : (xs : TextTree Span) (r : Refusal) → Writes bytes xs → IsFormRefusal bytes r → ⊥
+  pub written_unrefused : (xs : TextTree Span) (r : Refusal Rule) → Writes bytes xs → IsFormRefusal bytes r → ⊥
   written_unrefused xs r p (foreign at found is) = clash at _ found p.pure
   written_unrefused xs r p (headless ts s pure l h is) = headless_headed ts p.tokens p.rest s p.stop l p.lexed h p.headed
   written_unrefused xs r p (faulty ts s rest f pure l h first is) =
@@ -56,7 +52,7 @@ module _ (bytes : List ℕ) where
   same_place ts ts' s s' rule rule' index e f h = λ i. refusal_at bytes (h i) (place_at bytes (e i) (f i) (index (e i) (f i)))
 
   -- there is one first refusal at most
-  pub one_refusal : (r q : Refusal) → IsFormRefusal bytes r → IsFormRefusal bytes q → r ≡ q
+  pub one_refusal : (r q : Refusal Rule) → IsFormRefusal bytes r → IsFormRefusal bytes q → r ≡ q
   one_refusal r q (foreign at found is) (foreign at' found' is') = is ∙ ap (refusal_at bytes P1) (same_some at at' _ found found') ∙ sym is'
   one_refusal r q (foreign at found is) (headless ts s pure l h is') = absurd (clash at _ found pure)
   one_refusal r q (foreign at found is) (faulty ts s rest f pure l h first is') = absurd (clash at _ found pure)
@@ -71,24 +67,3 @@ module _ (bytes : List ℕ) where
       let faults : f ≡ f' = one_fault P3 (reads no_place) (terminals_of bytes (has_fences bytes ts') rest' s') f f'
       (subst (λ ts. IsFirstFault spelling P3 ts f) (same_terminals ts ts' rest rest' s s' l l' h h') first) first' in
       is ∙ (λ i. refusal_at bytes (faults i).rule (place_at bytes (same.0 i) (same.1 i) (length (starts (same.0 i) (same.1 i)) - (faults i).left))) ∙ sym is'
-
--- The four clauses of a reader that answers with a text or the first refusal.
-module _ (bytes : List ℕ) where
-  pub found : (r : Result RawText ParseFault) → IsAnswer bytes r → IfOk r (λ x. Writes bytes (text_tree_of x))
-  found (Ok x) a = a
-  found (Err _) a = tt
-
-  pub refused : (r : Result RawText ParseFault) → IsAnswer bytes r → IfErr r (λ e. IfRefused e (λ q. IsFormRefusal bytes q))
-  refused (Ok x) a = tt
-  refused (Err (faults.Refused rule line column)) a = a
-  refused (Err faults.NoMemory) a = tt
-
-  pub only : (r : Result RawText ParseFault) → IsAnswer bytes r → (p : TextTree Span) → Writes bytes p → MatchResult r (λ x. text_tree_of x ≡ p) (λ e. e ≡ faults.NoMemory)
-  only (Ok x) a p w = one_text bytes (text_tree_of x) p a w
-  only (Err (faults.Refused rule line column)) a p w = absurd (written_unrefused bytes p _ w a)
-  only (Err faults.NoMemory) a p w = refl
-
-  pub exact : (r : Result RawText ParseFault) → IsAnswer bytes r → (q : Refusal) → IsFormRefusal bytes q → MatchResult r (λ x. ⊥) (λ e. IfRefused e (λ g. g ≡ q))
-  exact (Ok x) a q p = written_unrefused bytes (text_tree_of x) q a p
-  exact (Err (faults.Refused rule line column)) a q p = one_refusal bytes _ q a p
-  exact (Err faults.NoMemory) a q p = tt

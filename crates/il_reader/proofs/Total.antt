@@ -18,7 +18,7 @@ use Rattle.il_reader.specs.Text.{Writes, IsFormRefusal, foreign, headless, fault
 
 module _ (bytes : List ℕ) where
   abbrev pub HasAnswer : Type 0
-  HasAnswer = ((xs : TextTree Span) × Writes bytes xs) ⊎ ((r : Refusal) × IsFormRefusal bytes r)
+  HasAnswer = ((xs : TextTree Span) × Writes bytes xs) ⊎ ((r : Refusal Rule) × IsFormRefusal bytes r)
 
   in_sentence : (tokens : List Token) (stop : Rest) (rest : List Token) → position is_foreign bytes ≡ None → Lexes 0 bytes tokens stop → after_header bytes tokens ≡ Some rest → ((xs : TextTree Span) × Spells spelling (terminals_of bytes (has_fences bytes tokens) rest stop) xs) ⊎ ((f : Fault Rule) × IsFirstFault spelling P3 (terminals_of bytes (has_fences bytes tokens) rest stop) f) → HasAnswer
   in_sentence tokens stop rest pure l h (inl (xs, p)) = inl (xs, record { tokens = tokens; stop = stop; rest = rest; pure = pure; lexed = l; headed = h; spelled = p })

@@ -1,5 +1,5 @@
 -- Which texts are written as a text of the grammar, and what the first refusal of form of another is.
-use Rattle.std.specs.Prelude.{◌≡◌, ℕ, ◌-◌, List, [], ◌∷◌, ◌++◌, map, length, get_or, Some, None, Result, Ok, Err}
+use Rattle.std.specs.Prelude.{◌≡◌, ℕ, ◌-◌, List, [], ◌∷◌, ◌++◌, map, length, get_or, Some, None, Result}
 use Rattle.std.specs.List.{position}
 use Rattle.token_machine.specs.Text.{Spells, IsFirstFault}
 use Rattle.token_machine.specs.declared.fault.Fault.{Fault}
@@ -13,10 +13,9 @@ use Rattle.il_grammar.specs.Name.{name_text}
 use Rattle.il_grammar.specs.Grammar.{TextTree, spelling}
 use Rattle.il_grammar.specs.Mapped.{terminal_map}
 use Rattle.il_grammar.specs.Reading.{text_tree_of}
-use Rattle.il_reader.specs.declared.fault.ParseFault.{ParseFault}
-use Rattle.il_reader.specs.declared.fault.ParseFault.TheVariants as faults
+use Rattle.il_reader.specs.declared.fault.InputFault.{InputFault}
 use Rattle.il_reader.specs.Terminals.{terminals_of, after_header, has_fences}
-use Rattle.il_reader.specs.Refusal.{Refusal, refusal_at}
+use Rattle.il_reader.specs.Refusal.{Refusal, Answers, refusal_at}
 
 abbrev pub unknown_start : Rest → List ℕ
 unknown_start at_end = []
@@ -51,7 +50,7 @@ pub record WritesNamed (bytes : List ℕ) (tree : TextTree (List ℕ)) : Type 0 
   pub spelled : Spells spelling (map (terminal_map (name_text bytes)) (terminals_of bytes (has_fences bytes tokens) rest stop)) tree
 
 -- the first refusal of form: a foreign byte anywhere, then the header, then the first fault of the grammar
-pub data IsFormRefusal (bytes : List ℕ) (r : Refusal) : Type 0 where
+pub data IsFormRefusal (bytes : List ℕ) (r : Refusal Rule) : Type 0 where
   foreign : (at : ℕ) → position is_foreign bytes ≡ Some at → r ≡ refusal_at bytes P1 at → IsFormRefusal bytes r
   headless : (tokens : List Token) (stop : Rest) → position is_foreign bytes ≡ None → Lexes 0 bytes tokens stop → after_header bytes tokens ≡ None
       → r ≡ refusal_at bytes P2 (place_at bytes tokens stop 0) → IsFormRefusal bytes r
@@ -61,7 +60,5 @@ pub data IsFormRefusal (bytes : List ℕ) (r : Refusal) : Type 0 where
       → r ≡ refusal_at bytes f.rule (place_at bytes tokens stop (length (starts tokens stop) - f.left)) → IsFormRefusal bytes r
 
 -- the answer is the text as the bytes write it, or their first refusal of form
-abbrev pub IsAnswer : List ℕ → Result RawText ParseFault → Type 0
-IsAnswer bytes (Ok x) = Writes bytes (text_tree_of x)
-IsAnswer bytes (Err (faults.Refused rule line column)) = IsFormRefusal bytes (record { rule = rule; line = line; column = column })
-IsAnswer bytes (Err faults.NoMemory) = Unit {0}
+abbrev pub IsAnswer : List ℕ → Result RawText (InputFault Rule) → Type 0
+IsAnswer bytes = Answers (λ x. Writes bytes (text_tree_of x)) (IsFormRefusal bytes)

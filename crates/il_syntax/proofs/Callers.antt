@@ -11,3 +11,6 @@ pub use Rattle.il_syntax.proofs.Globals.{declarable_globals}
 pub use Rattle.il_syntax.proofs.WellFormedFacts.{FunctionFacts, WellFormedFacts, function_facts, facts_of, declarable_names, free_names}
 pub use Rattle.il_syntax.proofs.EachLaw.{functions_well_formed, function_small}
 pub use Rattle.il_syntax.proofs.GivenLaw.{given_registers_exist}
+-- other functions in the place of a program's
+pub use Rattle.il_syntax.proofs.Replaced.{functions_fit, functions_replaced, fitting_functions_may_be_replaced, fitting_is_well_formed}
+pub use Rattle.il_syntax.proofs.Changed.{names_of_changed}

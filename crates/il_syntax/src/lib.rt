@@ -17,7 +17,9 @@ pub mod statement;
 pub mod text_order;
 
 pub use checks::{fits, well_formed};
-pub use copies::{copy_function, copy_program, copy_statement};
+pub use copies::{
+    copy_function, copy_name, copy_names, copy_program, copy_statement, with_functions,
+};
 pub use fences::has_no_fence;
 pub use names::{is_among, is_digit, is_letter, is_name, is_reserved, is_word_byte};
 pub use program::{

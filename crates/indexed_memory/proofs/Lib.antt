@@ -1,11 +1,11 @@
-pub mod Finding
-pub mod GapSums
-pub mod Counting
-pub mod Nth
-pub mod Agreeing
-pub mod Inserting
-pub mod Growing
-pub mod Telling
-pub mod Pushing
-pub mod Starting
-pub mod Examples
+mod Finding
+mod GapSums
+mod Counting
+mod Nth
+mod Agreeing
+mod Inserting
+mod Growing
+mod Telling
+mod Pushing
+mod Starting
+mod Examples

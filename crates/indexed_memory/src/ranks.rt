@@ -8,7 +8,7 @@ use message_memory::Message;
 
 /// Where a timestamp stands among the messages of a location: `k` of them end below it, and one ends at
 /// it, or none.
-#[derive(Clone, Copy, Debug, PartialEq, Eq)]
+#[derive(Clone, Copy, PartialEq, Eq)]
 pub enum Rank {
     At { k: u64 },
     Between { k: u64 },

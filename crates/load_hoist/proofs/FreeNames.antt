@@ -1,18 +1,21 @@
 -- The number of a new name is the least free one, and the name may be declared.
-use Rattle.std.proofs.Common.{◌≡◌, ◌≤◌, ◌<◌, ◌^◌, ◌%◌, ℕ, zero, suc, ◌+◌, Bool, true, false, cond, eqb, ◌&&◌, ◌||◌, nat_le, List, [], ◌∷◌, ◌++◌, length, drop, map, refl, sym, ap, ◌∙◌, subst, ◌⊎◌, inl, inr, arith}
+use Rattle.std.proofs.Common.{◌≡◌, ◌≤◌, ◌<◌, ◌^◌, ◌%◌, ℕ, zero, suc, ◌+◌, ◌-◌, Bool, true, false, cond, eqb, ◌&&◌, ◌||◌, nat_le, nat_lt, List, [], ◌∷◌, ◌++◌, length, length-append, drop, map, refl, sym, ap, ◌∙◌, subst, ◌⊎◌, inl, inr, arith}
+use Rattle.std.specs.Prelude.{IsTrue}
 use Rattle.std.specs.List.{list_any, list_all}
 use Rattle.std.specs.Fmt.{decimal}
 use Rattle.std.specs.Str.{bytes_eq}
 use Rattle.std.specs.Str.Parse.{digits_value}
-use Rattle.std.proofs.lemmas.Bool.{eq-eqb, false≢true, le-leb, cases_lt, and_from}
+use Rattle.std.proofs.lemmas.Bool.{eq-eqb, false≢true, le-leb, ltb-true, cases_lt, and_parts, and_from}
 use Rattle.std.proofs.lemmas.Slice.Eq.{bytes_eq-Decides}
 use Rattle.std.proofs.lemmas.Fmt.{decimal_is_IsNumeral, decimal_by_steps, length-decimal-le}
-use Rattle.std.proofs.lemmas.List.Folds.{list_all-append}
+use Rattle.std.proofs.lemmas.List.Folds.{list_all-append, list_any-append}
 use Rattle.std.proofs.lemmas.Map.Steps.{le-length_from_below}
 use Rattle.std.proofs.lemmas.List.{length-map}
 use Rattle.il_syntax.specs.Name.{is_word_byte, is_letter, is_digit, is_name, is_among}
 use Rattle.il_syntax.specs.WellFormed.{is_short}
-use Rattle.load_hoist.specs.Introduced.{hoisted_name, free_number}
+use Rattle.load_hoist.specs.declared.growth.Growth.{Growth}
+use Rattle.load_hoist.specs.Introduced.{hoisted_name, free_number, next_number, may_grow, grown}
+use Rattle.load_hoist.specs.Taken.{AreTakenBelow}
 use Rattle.load_hoist.specs.Laws.{NextNumberIsLeastFree}
 
 -- the number that a name tells
@@ -91,6 +94,72 @@ next_is_free taken few = go (is_among taken (hoisted_name (free_number (length t
         each : (q : ℕ) → q < length taken + 1 → (q < length taken) ⊎ (length taken ≤ q) → is_among taken (hoisted_name q) ≡ true
         each q h (inl l) = free_least (length taken) 0 taken q (omega arith) (omega arith)
         each q h (inr l) = let same : free_number (length taken) 0 taken ≡ q = omega arith in subst (λ i. is_among taken (hoisted_name i) ≡ true) same e
+
+-- where the names of lower numbers are taken the search may begin there
+
+skipped : (d k n m : ℕ) (taken : List (List ℕ)) → ((j : ℕ) → k ≤ j → j < k + d → is_among taken (hoisted_name j) ≡ true) → n ≡ d + m → free_number n k taken ≡ free_number m (k + d) taken
+skipped zero k n m taken t e = ap (λ i. free_number i k taken) (let f : n ≡ m = omega (arith, e) in f) ∙ ap (λ i. free_number m i taken) (let f : k ≡ k + 0 = omega arith in f)
+skipped (suc d) k n m taken t e =
+    free_step n k (d + m) taken (omega (arith, e)) (t k (omega arith) (omega arith))
+    ∙ skipped d (k + 1) (d + m) m taken (λ j a b. t j (omega (arith, a)) (omega (arith, b))) refl
+    ∙ ap (λ i. free_number m i taken) (let f : (k + 1) + d ≡ k + suc d = omega arith in f)
+
+-- there are at least as many names as numbers with a name that is taken
+pub taken_few : (from : ℕ) (taken : List (List ℕ)) → from < 2 ^ 64 → AreTakenBelow from taken → from ≤ length taken
+taken_few from taken few t =
+    let all = le-length_from_below (map told taken) from (λ q h. any_told q taken (omega (arith, few, h)) (t q h)) in
+    let n = length-map taken told in omega (arith, all, n)
+
+pub free_from : (from : ℕ) (taken : List (List ℕ)) → from < 2 ^ 64 → AreTakenBelow from taken → free_number (length taken - from) from taken ≡ free_number (length taken) 0 taken
+free_from from taken few t =
+    let enough = taken_few from taken few t in
+    sym (skipped from 0 (length taken) (length taken - from) taken (λ j a b. t j (omega (arith, b))) (omega (arith, enough)) ∙ ap (λ i. free_number (length taken - from) i taken) (let f : 0 + from ≡ from = omega arith in f))
+
+-- after a new register its number's name is taken too, with all lower ones
+module _ (names : List (List ℕ)) (g : Growth) where
+  abbrev next : ℕ
+  next = next_number names g
+
+  abbrev among : List (List ℕ) → ℕ → Bool
+  among taken k = is_among taken (hoisted_name k)
+
+  among_parts : (k : ℕ) → among ((grown names g).registers ++ names) k ≡ ((among g.registers k || (bytes_eq (hoisted_name k) (hoisted_name next) || false)) || among names k)
+  among_parts k =
+      list_any-append (bytes_eq (hoisted_name k)) (g.registers ++ hoisted_name next ∷ []) names
+      ∙ ap (λ (b : Bool). b || among names k) (list_any-append (bytes_eq (hoisted_name k)) g.registers (hoisted_name next ∷ []))
+
+  old_among : (p q r : Bool) → (p || r) ≡ true → ((p || (q || false)) || r) ≡ true
+  old_among true q r e = refl
+  old_among false true r e = refl
+  old_among false false r e = e
+
+  new_among : (p q r : Bool) → q ≡ true → ((p || (q || false)) || r) ≡ true
+  new_among true q r e = refl
+  new_among false true r e = refl
+  new_among false false r e = absurd (false≢true e)
+
+  taken_so : (k : ℕ) → k < next + 1 → (k < next) ⊎ (next ≤ k) → among ((grown names g).registers ++ names) k ≡ true
+  taken_so k h (inl l) =
+      among_parts k
+      ∙ old_among (among g.registers k) (bytes_eq (hoisted_name k) (hoisted_name next)) (among names k)
+      (sym (list_any-append (bytes_eq (hoisted_name k)) g.registers names) ∙ free_least (length (g.registers ++ names)) 0 (g.registers ++ names) k (omega arith) l)
+  taken_so k h (inr l) =
+      among_parts k
+      ∙ new_among (among g.registers k) (bytes_eq (hoisted_name k) (hoisted_name next)) (among names k)
+      ((bytes_eq-Decides (hoisted_name k) (hoisted_name next)).1 (ap hoisted_name (let e : k ≡ next = omega (arith, h, l) in e)))
+
+  pub taken_after : (registers : List (List ℕ)) (name : List ℕ) (k : ℕ) → k ≡ next → name ≡ hoisted_name k → registers ≡ g.registers ++ name ∷ [] → AreTakenBelow (k + 1) (registers ++ names)
+  taken_after registers name k e f is j h =
+      ap (λ (others : List (List ℕ)). among (others ++ names) j) (is ∙ ap (λ (text : List ℕ). g.registers ++ text ∷ []) (f ∙ ap hoisted_name e)) ∙ taken_so j (omega (arith, h, e)) (cases_lt j next)
+
+  -- and is no large number
+  pub next_few : IsTrue (may_grow g) → length names < 2 ^ 32 → next < 2 ^ 33
+  next_few may few =
+      let most = free_at_most (length (g.registers ++ names)) 0 (g.registers ++ names) in
+      let m = (and_parts (nat_lt (length g.registers) 64) (nat_lt g.statements 4096) may).0 in
+      let registers = ltb-true (length g.registers) 64 m in
+      let long = length-append g.registers names in
+      omega arith
 
 pub next_number_is_least_free : NextNumberIsLeastFree
 next_number_is_least_free names g few =

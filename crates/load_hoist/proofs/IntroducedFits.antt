@@ -2,7 +2,7 @@
 use Rattle.std.proofs.Common.{◌≡◌, ◌≤◌, ◌<◌, ◌^◌, ℕ, zero, suc, ◌+◌, max, Bool, true, false, cond, not, ◌==◌, ◌&&◌, ◌||◌, nat_le, nat_lt, List, [], ◌∷◌, ◌++◌, length, map, refl, sym, ap, ◌∙◌, length-append, arith}
 use Rattle.std.specs.List.{list_any, list_all}
 use Rattle.std.specs.Str.{bytes_eq}
-use Rattle.std.proofs.lemmas.Bool.{and_parts, and_from, false≢true, leb-true, le-leb, ltb-true, lt-ltb}
+use Rattle.std.proofs.lemmas.Bool.{and_parts, and_from, false≢true, leb-true, le-leb, ltb-true, lt-ltb, or_parts}
 use Rattle.std.proofs.lemmas.Slice.Eq.{bytes_eq-Decides}
 use Rattle.std.proofs.lemmas.List.Folds.{list_all-append, list_any-append}
 use Rattle.il_syntax.specs.declared.statement.Atom.{Atom}
@@ -18,7 +18,7 @@ use Rattle.il_syntax.specs.Checks.{is_declarable, is_unused_name, head_fits, reg
 use Rattle.il_syntax.proofs.Callers.{all_weaker, function_fits-is_well_formed, well_formed-function_fits}
 use Rattle.il_paths.specs.Tree.{head_of_leaf, Tree, Empty, Then, IfThen, WhileThen, tree_of, heads_in, sites_of}
 use Rattle.il_paths.specs.Code.{AllHeads}
-use Rattle.il_paths.proofs.Callers.{heads_agree, sites_agree}
+use Rattle.il_paths.proofs.Callers.{heads_agree, sites_agree, all_heads_more}
 use Rattle.rewriting.proofs.Callers.{one_block, depth_in, depths_agree}
 use Rattle.load_hoist.specs.declared.growth.Extra.{Extra}
 use Rattle.load_hoist.specs.declared.growth.Growth.{Growth}
@@ -261,10 +261,6 @@ same_bytes x y e = go (bytes_eq y x) refl
     go false f = refl
     go true f = let same = (bytes_eq-Decides y x).0 f in absurd (false≢true (sym e ∙ (bytes_eq-Decides x y).1 (sym same)))
 
-or_parts : (p q : Bool) → (p || q) ≡ false → (p ≡ false) × (q ≡ false)
-or_parts true q e = absurd (false≢true (sym e))
-or_parts false q e = (refl, e)
-
 or_from : (p q : Bool) → p ≡ false → q ≡ false → (p || q) ≡ false
 or_from p q e f = λ i. e i || f i
 
@@ -356,6 +352,22 @@ introduced_fits d f g few w is =
     (and_from (nat_le (depth_of_all g.body.statements) 32) (list_all (test m) new_heads && atom_exists m g.result) (ap (λ (k : ℕ). nat_le k 32) depth ∙ i.0)
     (and_from (list_all (test m) new_heads) (atom_exists m g.result) heads (ap (atom_exists m) is.result ∙ more_atoms n m f.result most j.1)))))))
 
+pub introduced_more : (na : ℕ) (names : List (List ℕ)) (f g : Function) → IsIntroduced na names f g → length f.registers ≤ length g.registers
+introduced_more na names f g is = let more = ap length is.registers in let most = grows na names (tree_of f.body) [] (growth_of f) in omega arith
+
+-- as many statements more as registers
+pub introduced_grown : (na : ℕ) (names : List (List ℕ)) (f g : Function) → IsIntroduced na names f g → site_count g.body.statements + length f.registers ≡ site_count f.body.statements + length g.registers
+introduced_grown na names f g is =
+    let t = tree_of f.body in
+    let start = growth_of f in
+    let all = counted na names t [] start in
+    let old = sites_agree f.body in
+    let new = sym (sites_agree g.body) ∙ ap sites_of is.body in
+    let more = ap length is.registers in
+    let kept : (introduced na names t [] start).1.statements + length f.registers ≡ sites_of t + length (introduced na names t [] start).1.registers =
+    kept_by_all names (λ h. h.statements + length f.registers ≡ sites_of t + length h.registers) (λ h may p. let long = grown-registers names h in omega (arith, long, p)) na t [] start refl in
+    omega (arith, all, old, new, more, kept)
+
 -- a function that fits gives no register past its own
 
 gives : (n functions : ℕ) (head : Head) → numbers_exist n functions head ≡ true → GivesBelow n head
@@ -373,19 +385,13 @@ gives n k (If a _ _) e = tt
 gives n k (While a _) e = tt
 gives n k (Call r function args) e = ltb-true r n (and_parts (nat_lt r n) (nat_lt function k && list_all (atom_exists n) args) e).0
 
-weaker : (P Q : Head → Type 0) → ((h : Head) → P h → Q h) → (t : Tree) → AllHeads P t → AllHeads Q t
-weaker P Q f Empty a = tt
-weaker P Q f (Then leaf rest) a = (f (head_of_leaf leaf) a.0, weaker P Q f rest a.1)
-weaker P Q f (IfThen c y n rest) a = (f (If c tt tt) a.0, weaker P Q f y a.1, weaker P Q f n a.2, weaker P Q f rest a.3)
-weaker P Q f (WhileThen c body rest) a = (f (While c tt) a.0, weaker P Q f body a.1, weaker P Q f rest a.2)
-
 pub gives_below : (d : Declared) (f : Function) → IsFunctionWellFormed d f → AllHeads (GivesBelow (length f.registers)) (tree_of f.body)
 gives_below d f w =
     let n = length f.registers in
     let test = numbers_exist n (length d.params) in
     let a = and_parts (nat_le f.params n) (list_all test (heads_of_all f.body.statements) && atom_exists n f.result) w.numbers in
     let b = and_parts (list_all test (heads_of_all f.body.statements)) (atom_exists n f.result) a.1 in
-    weaker (λ h. test h ≡ true) (GivesBelow n) (gives n (length d.params)) (tree_of f.body) (tested test (tree_of f.body) (ap (list_all test) (heads_agree f.body) ∙ b.0))
+    all_heads_more (λ h. test h ≡ true) (GivesBelow n) (gives n (length d.params)) (tree_of f.body) (tested test (tree_of f.body) (ap (list_all test) (heads_agree f.body) ∙ b.0))
 
 -- no more statements than there may be
 pub introduced_count : (na : ℕ) (names : List (List ℕ)) (f g : Function) → site_count f.body.statements ≤ 4096 → IsIntroduced na names f g → site_count g.body.statements ≤ 4096

@@ -1,7 +1,7 @@
 -- What introduction makes keeps the pairs of its loads.
 use Rattle.std.proofs.Common.{◌≡◌, ◌≤◌, ◌<◌, ℕ, zero, suc, ◌+◌, Bool, true, false, cond, leb, not, ◌==◌, ◌&&◌, ◌||◌, List, [], ◌∷◌, ◌++◌, map, length, length-append, refl, sym, ◌∙◌, subst, ⊎_elim, arith}
 use Rattle.std.specs.List.{list_any}
-use Rattle.std.proofs.lemmas.Bool.{eqb-true, false≢true, leb-true, leb-false}
+use Rattle.std.proofs.lemmas.Bool.{eqb-true, false≢true, leb-true, leb-false, and_parts, not-true, or_parts}
 use Rattle.std.proofs.lemmas.List.Folds.{list_any-append}
 use Rattle.il_syntax.specs.declared.statement.Atom.{Atom}
 use Rattle.il_syntax.specs.declared.statement.Stmt.TheOpen.{Skip, Copy, Compute, Load, Store, AtomicLoad, AtomicStore, Update, Fence, Print, If, While, Call}
@@ -34,18 +34,6 @@ below_not a b h = go (a == b) refl
     go : (t : Bool) → (a == b) ≡ t → t ≡ false
     go true e = let same = eqb-true a b e in absurd (omega arith)
     go false e = refl
-
-or_parts : (p q : Bool) → (p || q) ≡ false → (p ≡ false) × (q ≡ false)
-or_parts true q e = absurd (false≢true (sym e))
-or_parts false q e = (refl, e)
-
-and_parts : (p q : Bool) → (p && q) ≡ true → (p ≡ true) × (q ≡ true)
-and_parts true q e = (refl, e)
-and_parts false q e = absurd (false≢true e)
-
-not_true : (p : Bool) → not p ≡ true → p ≡ false
-not_true true e = absurd (false≢true e)
-not_true false e = refl
 
 -- no statement passes the test
 unforbidden : (p : Head → Bool) (t : Tree) → list_any p (heads_in t) ≡ false → AllHeads (λ h. p h ≡ false) t
@@ -236,7 +224,7 @@ module _ (na : ℕ) (names : List (List ℕ)) where
       let g2 = grows body within put.1 in
       well_put old body (length put.1.registers) a turn.0 more.0
       (λ e b below wanted. all_introduced (KeepsPair e) body within put.1
-      (both_heads (GivesBelow old) (λ h. forbids e.x h ≡ false) (KeepsPair e) (λ h gives f. keeps_head old e b h gives f) body all.1 (unforbidden (forbids e.x) body (not_true (list_any (forbids e.x) (heads_in body)) (and_parts (list_any (loads e.x) (heads_in body)) (not (list_any (forbids e.x) (heads_in body))) wanted).1)))
+      (both_heads (GivesBelow old) (λ h. forbids e.x h ≡ false) (KeepsPair e) (λ h gives f. keeps_head old e b h gives f) body all.1 (unforbidden (forbids e.x) body (not-true (list_any (forbids e.x) (heads_in body)) (and_parts (list_any (loads e.x) (heads_in body)) (not (list_any (forbids e.x) (heads_in body))) wanted).1)))
       (λ r x h. keeps_load e r x (omega arith)))
       (λ m. well old body within put.1 (omega (arith, g1)) all.1 m)
       (λ m. well old rest inside turn.1 (omega (arith, g1, g2)) all.2 m)

@@ -1,6 +1,6 @@
-pub mod HoistLaws
-pub mod IntroducedLaws
-pub mod FreeNames
-pub mod IntroducedFits
-pub mod PutLoads
+mod HoistLaws
+mod IntroducedLaws
+mod FreeNames
+mod IntroducedFits
+mod PutLoads
 pub mod Callers

@@ -8,9 +8,9 @@ use Rattle.il_syntax.specs.declared.statement.Block.{Block}
 use Rattle.std.specs.List.{list_any}
 use Rattle.il_syntax.specs.Statements.{Head, heads_of_all}
 use Rattle.il_paths.specs.Tree.{Leaf, leaf_statement, Tree, IfThen, WhileThen, before_rest, tree_of}
-use Rattle.il_paths.proofs.Callers.{heads_agree, before_rest-if, before_rest-while}
+use Rattle.il_paths.proofs.Callers.{heads_agree, before_rest-if, before_rest-while, before_rest-leaf}
 use Rattle.rewriting.specs.Puts.{puts}
-use Rattle.rewriting.proofs.Callers.{puts-push, leaf_puts}
+use Rattle.rewriting.proofs.Callers.{puts-push}
 use Rattle.load_hoist.specs.declared.growth.Extra.{Extra}
 use Rattle.load_hoist.specs.declared.growth.Growth.{Growth}
 use Rattle.load_hoist.specs.Introduced.{loads, forbids, is_wanted, gets_load, grown, extras, load_of, put_loads, introduced}
@@ -31,7 +31,7 @@ module _ (names : List (List ℕ)) (body : Tree) (inside : List ℕ) (n m x : �
 -- a load puts its leaf
 load_puts : (e : Extra) (rest : Tree) → before_rest (load_of e) rest ≡ put_loads (e ∷ []) rest
 unfolding made.roll-Stmt denote.Hole.Carrier.roll
-load_puts e rest = leaf_puts (Load e.r e.x) rest
+load_puts e rest = before_rest-leaf (Load e.r e.x) rest
 
 pub puts-loads : (ss : List Stmt) (es : List Extra) (rest : Tree) → puts (ss ++ map load_of es) rest ≡ puts ss (put_loads es rest)
 puts-loads [] [] rest = refl
@@ -45,8 +45,8 @@ module _ (na : ℕ) (names : List (List ℕ)) (inside : List ℕ) (g : Growth) (
       ((introduced na names (before_rest s rest) inside g).1 ≡ (introduced na names rest inside g).1)
   after_plain s leaf e kept =
       let more = introduced na names rest inside g in
-      let same = ap (λ (t : Stmt). before_rest t rest) e ∙ leaf_puts leaf rest in
-      let first = ap (λ (t : Stmt). before_rest t more.0) e ∙ leaf_puts leaf more.0 in (
+      let same = ap (λ (t : Stmt). before_rest t rest) e ∙ before_rest-leaf leaf rest in
+      let first = ap (λ (t : Stmt). before_rest t more.0) e ∙ before_rest-leaf leaf more.0 in (
         ap (λ (t : Tree). puts kept (introduced na names t inside g).0) same ∙ ap (puts kept) (sym first) ∙ sym (puts-push kept s more.0),
         ap (λ (t : Tree). (introduced na names t inside g).1) same,
       )

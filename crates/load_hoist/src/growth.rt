@@ -14,3 +14,10 @@ pub struct Growth {
     pub registers: Names,
     pub statements: u32,
 }
+
+/// The function so far, and a number below which the name of each new register is taken.
+#[derive(Drop)]
+pub struct Growing {
+    pub growth: Growth,
+    pub from: u64,
+}

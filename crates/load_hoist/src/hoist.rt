@@ -6,13 +6,13 @@ ghost use Rattle.rewriting.specs.Puts.{puts};
 ghost use Rattle.load_hoist.specs.declared.growth.Extra.{Extra};
 ghost use Rattle.load_hoist.specs.Introduced as spec;
 ghost use Rattle.load_hoist.specs.Introduced.{extras, introduced, load_of, IsIntroduced};
+ghost use Rattle.load_hoist.specs.Taken.{IsTaken};
 
-use crate::growth::Growth;
+use crate::growth::{Growing, Growth};
 use crate::names::next_name;
 use crate::wanted::is_wanted;
-use il_syntax::{Block, Function, Name, Names, Stmt, copy_statement, sites};
+use il_syntax::{Block, Function, Name, Names, Stmt, copy_name, copy_names, copy_statement, sites};
 use location_sets::has;
-use rewriting::{copy_name, copy_names};
 use sqlite_items::Items;
 use std::alloc::Global;
 use values_undef::NoMemory;
@@ -41,18 +41,21 @@ fn put_load(
     alloc: Global,
     names: &[Name],
     x: u32,
-    growth: &mut Growth,
+    growing: &mut Growing,
     kept: &mut Items<Stmt>,
 ) -> Result<(), NoMemory>
-    requires may { IsTrue (spec.may_grow growth.old) }
+    requires may { IsTrue (spec.may_grow growing.old.growth) }
     requires few { length names.now < 2 ^ 32 }
-    ensures growth { OnOk result (growth.new ≡ spec.grown names.now growth.old) }
-    ensures kept { OnOk result (kept.new ≡ kept.old ++ load_of (record { r = length growth.old.registers; x = x }) ∷ []) }
+    requires taken { IsTaken names.now growing.old }
+    ensures growth { OnOk result (growing.new.growth ≡ spec.grown names.now growing.old.growth) }
+    ensures taken { OnOk result (IsTaken names.now growing.new) }
+    ensures kept { OnOk result (kept.new ≡ kept.old ++ load_of (record { r = length growing.old.growth.registers; x = x }) ∷ []) }
 {
-    let r = growth.registers.len() as u32;
-    let name = next_name(alloc, names, growth)?;
-    growth.registers.push(name)?;
-    growth.statements += 1;
+    let r = growing.growth.registers.len() as u32;
+    let new = next_name(alloc, names, &growing.growth, growing.from)?;
+    growing.growth.registers.push(new.name)?;
+    growing.growth.statements += 1;
+    growing.from = new.number + 1;
     kept.push(Stmt::Load { r, x })?;
     Ok(())
 }
@@ -65,18 +68,20 @@ fn put_loads(
     names: &[Name],
     body: &Block,
     inside: &[u32],
-    growth: &mut Growth,
+    growing: &mut Growing,
     kept: &mut Items<Stmt>,
 ) -> Result<Items<u32>, NoMemory>
     requires few { length names.now < 2 ^ 32 }
-    ensures within { IfOk result (λ within. within ≡ map (λ (e : Extra). e.x) (extras names.now (tree_of body.now) inside.now na 0 growth.old).0 ++ inside.now) }
-    ensures growth { OnOk result (growth.new ≡ (extras names.now (tree_of body.now) inside.now na 0 growth.old).1) }
-    ensures kept { OnOk result (kept.new ≡ kept.old ++ map load_of (extras names.now (tree_of body.now) inside.now na 0 growth.old).0) }
+    requires taken { IsTaken names.now growing.old }
+    ensures within { IfOk result (λ within. within ≡ map (λ (e : Extra). e.x) (extras names.now (tree_of body.now) inside.now na 0 growing.old.growth).0 ++ inside.now) }
+    ensures growth { OnOk result (growing.new.growth ≡ (extras names.now (tree_of body.now) inside.now na 0 growing.old.growth).1) }
+    ensures taken { OnOk result (IsTaken names.now growing.new) }
+    ensures kept { OnOk result (kept.new ≡ kept.old ++ map load_of (extras names.now (tree_of body.now) inside.now na 0 growing.old.growth).0) }
 {
     let mut within = Items::new(alloc);
     for x in 0..na {
-        if gets_load(body, inside, x, growth) {
-            put_load(alloc, names, x, growth, kept)?;
+        if gets_load(body, inside, x, &growing.growth) {
+            put_load(alloc, names, x, growing, kept)?;
             within.push(x)?;
         }
     }
@@ -94,15 +99,17 @@ fn hoist_block(
     names: &[Name],
     block: &Block,
     inside: &[u32],
-    growth: &mut Growth,
+    growing: &mut Growing,
 ) -> Result<Block, NoMemory>
     requires few { length names.now < 2 ^ 32 }
-    ensures block { IfOk result (λ new. tree_of new ≡ (introduced na names.now (tree_of block.now) inside.now growth.old).0) }
-    ensures growth { OnOk result (growth.new ≡ (introduced na names.now (tree_of block.now) inside.now growth.old).1) }
+    requires taken { IsTaken names.now growing.old }
+    ensures block { IfOk result (λ new. tree_of new ≡ (introduced na names.now (tree_of block.now) inside.now growing.old.growth).0) }
+    ensures growth { OnOk result (growing.new.growth ≡ (introduced na names.now (tree_of block.now) inside.now growing.old.growth).1) }
+    ensures taken { OnOk result (IsTaken names.now growing.new) }
 {
     let mut kept = Items::new(alloc);
     for statement in block.statements.as_slice() {
-        hoist_statement(alloc, na, names, statement, inside, growth, &mut kept)?;
+        hoist_statement(alloc, na, names, statement, inside, growing, &mut kept)?;
     }
     Ok(Block { statements: kept })
 }
@@ -115,17 +122,19 @@ fn hoist_statement(
     names: &[Name],
     statement: &Stmt,
     inside: &[u32],
-    growth: &mut Growth,
+    growing: &mut Growing,
     kept: &mut Items<Stmt>,
 ) -> Result<(), NoMemory>
     requires few { length names.now < 2 ^ 32 }
-    ensures kept { OnOk result ((rest : Tree) → puts kept.old (introduced na names.now (before_rest statement.now rest) inside.now growth.old).0 ≡ puts kept.new (introduced na names.now rest inside.now growth.new).0) }
-    ensures growth { OnOk result ((rest : Tree) → (introduced na names.now (before_rest statement.now rest) inside.now growth.old).1 ≡ (introduced na names.now rest inside.now growth.new).1) }
+    requires taken { IsTaken names.now growing.old }
+    ensures kept { OnOk result ((rest : Tree) → puts kept.old (introduced na names.now (before_rest statement.now rest) inside.now growing.old.growth).0 ≡ puts kept.new (introduced na names.now rest inside.now growing.new.growth).0) }
+    ensures growth { OnOk result ((rest : Tree) → (introduced na names.now (before_rest statement.now rest) inside.now growing.old.growth).1 ≡ (introduced na names.now rest inside.now growing.new.growth).1) }
+    ensures taken { OnOk result (IsTaken names.now growing.new) }
 {
     match statement {
         Stmt::If { a, yes, no } => {
-            let one = hoist_block(alloc, na, names, yes, inside, growth)?;
-            let other = hoist_block(alloc, na, names, no, inside, growth)?;
+            let one = hoist_block(alloc, na, names, yes, inside, growing)?;
+            let other = hoist_block(alloc, na, names, no, inside, growing)?;
             kept.push(Stmt::If {
                 a: *a,
                 yes: one,
@@ -134,8 +143,8 @@ fn hoist_statement(
             Ok(())
         }
         Stmt::While { a, body } => {
-            let within = put_loads(alloc, na, names, body, inside, growth, kept)?;
-            let turn = hoist_block(alloc, na, names, body, within.as_slice(), growth)?;
+            let within = put_loads(alloc, na, names, body, inside, growing, kept)?;
+            let turn = hoist_block(alloc, na, names, body, within.as_slice(), growing)?;
             kept.push(Stmt::While { a: *a, body: turn })?;
             Ok(())
         }
@@ -164,17 +173,18 @@ pub fn introduce_loads(
 {
     let registers = copy_names(alloc, f.registers.as_slice())?;
     let statements = sites(f);
-    let mut growth = Growth {
+    let growth = Growth {
         registers,
         statements,
     };
+    let mut growing = Growing { growth, from: 0 };
     let taken = names.as_slice();
-    let body = hoist_block(alloc, na, taken, &f.body, &[], &mut growth)?;
+    let body = hoist_block(alloc, na, taken, &f.body, &[], &mut growing)?;
     let name = copy_name(alloc, &f.name)?;
     Ok(Function {
         name,
         params: f.params,
-        registers: growth.registers,
+        registers: growing.growth.registers,
         body,
         result: f.result,
     })

@@ -1,9 +1,10 @@
-pub mod Images
-pub mod Owners
-pub mod Histories
-pub mod Plain
-pub mod Atomic
-pub mod NonAtomic
-pub mod Stores
-pub mod Openings
-pub mod States
+mod Images
+mod Owners
+mod Histories
+mod Plain
+mod Atomic
+mod NonAtomic
+mod Stores
+mod Openings
+mod States
+pub mod Callers

@@ -11,8 +11,7 @@ use Rattle.values_undef.specs.declared.access.Choice.{Choice}
 use Rattle.values_undef.specs.declared.access.Choice.TheVariants.{Plain, Message, Place, Take}
 use Rattle.views.specs.Timestamps.{raised, joined}
 use Rattle.views.specs.ThreadView.{ThreadView, raised_view}
-use Rattle.views.proofs.ViewLemmas.{length-raised}
-use Rattle.views.proofs.ThreadViewLemmas.{length-heard}
+use Rattle.views.proofs.Callers.{length-raised, length-heard}
 use Rattle.message_memory.specs.declared.message.Message.{Message as TheMessage}
 use Rattle.message_memory.specs.Memory.{Memory, location_in, view_index, with_message}
 use Rattle.message_memory.specs.Step.{AdmitsChoice, view_after_read, message_times, write_message, update_message, read_at, meets_undef, is_racy, StepResult}

@@ -1,6 +1,6 @@
 -- What the event of a step tells of its access, and what an access needs to be proper.
 use Rattle.std.specs.Prelude.{◌≡◌, ◌↔◌, ℕ, ◌+◌, Bool, true, false, length}
-use Rattle.values_undef.specs.Access.{leaves_choice, is_failure, is_atomic_event, ends_thread, is_spend}
+use Rattle.values_undef.specs.Access.{leaves_choice, is_failure, is_atomic_event, is_read, ends_thread, is_spend}
 use Rattle.values_undef.specs.declared.value.Val.{Val}
 use Rattle.values_undef.specs.declared.access.Access.{Access}
 use Rattle.values_undef.specs.declared.access.Access.TheVariants.{NaRead, NaWrite, Read, Write, Update, Fence, Print, Fail, Finish, Spend}
@@ -50,21 +50,6 @@ spends (Print n) = false
 spends (Fail cause) = false
 spends Finish = false
 spends Spend = true
-
--- the event is the read of a non-atomic location
-abbrev pub is_read : Event → Bool
-is_read (event.NaRead x v) = true
-is_read (event.NaWrite x v version) = false
-is_read (event.Read y order v to) = false
-is_read (event.Write y order v from to) = false
-is_read (event.Update y order old new read to) = false
-is_read (event.Miss y order old read) = false
-is_read (event.Fence order) = false
-is_read (event.Print v) = false
-is_read (event.Fail cause) = false
-is_read (event.FailCompare y read) = false
-is_read event.Finish = false
-is_read event.Spend = false
 
 -- an event is of the kind of its access
 pub record IsOfKind (a : Access) (e : Event) : Type 0 where

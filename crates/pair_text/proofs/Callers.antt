@@ -1,5 +1,3 @@
 -- What proofs of other crates use.
-pub use Rattle.pair_text.proofs.Dividing.{one_division, never_lacks}
-pub use Rattle.pair_text.proofs.EachDivision.{each_division}
 pub use Rattle.pair_text.proofs.OneAnswer.{one_pair, one_pair_refusal, pair_unrefused, same_texts, texts_unrefused, one_texts_refusal}
 pub use Rattle.pair_text.proofs.EachInput.{each_pair, each_texts}

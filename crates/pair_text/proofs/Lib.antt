@@ -1,7 +1,3 @@
-mod Lines
-mod Dividing
-mod EachDivision
-mod Bounds
 mod OneAnswer
 mod EachInput
 mod Answered

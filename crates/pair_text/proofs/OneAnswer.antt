@@ -1,20 +1,15 @@
 -- Two texts, and an input, have one answer.
-use Rattle.std.proofs.Common.{◌≡◌, ◌∙◌, sym, ap, subst, refl, Result, Ok, Err}
-use Rattle.std.specs.Prelude.{MatchResult}
+use Rattle.std.proofs.Common.{◌≡◌, ◌∙◌, sym, ap, subst}
+use Rattle.text_parts.specs.Lines.{Text, newlines}
+use Rattle.text_parts.specs.Division.{DividesAtLine}
+use Rattle.text_parts.proofs.Callers.{one_division, never_lacks}
 use Rattle.il_syntax.specs.declared.program.Program.{Program}
-use Rattle.il_reader.specs.Refusal.{Refusal, IfRefused}
-use Rattle.il_reader.specs.declared.fault.ParseFault.{ParseFault}
-use Rattle.il_reader.specs.declared.fault.ParseFault.TheVariants as parse_faults
+use Rattle.il_reader.specs.Refusal.{after_lines, ruled}
 use Rattle.il_parser.proofs.Callers.{one_program, spelled_unrefused, one_first}
-use Rattle.journal_text.specs.Line.{Text}
-use Rattle.pair_text.specs.declared.fault.PairFault.{PairFault}
-use Rattle.pair_text.specs.declared.fault.PairFault.TheVariants as faults
-use Rattle.pair_text.specs.declared.input.ProgramPair.{ProgramPair}
-use Rattle.pair_text.specs.Division.{DividesAtLine}
-use Rattle.pair_text.specs.Refusals.{PairRefusal, target_word, text_refusal, moved, before_target, IfPairRefused}
-use Rattle.pair_text.specs.Reading.{SpellTexts, IsFirstOfTexts, of_source, of_target, ReadsPair, IsFirstPairRefusal, undivided, of_texts, IsTextsAnswer, IsPairAnswer}
+use Rattle.pair_text.specs.declared.fault.PairRule.TheVariants.{Grammar}
+use Rattle.pair_text.specs.Refusals.{target_word, before_target}
+use Rattle.pair_text.specs.Reading.{SpellTexts, IsFirstOfTexts, of_source, of_target, ReadsPair, IsFirstPairRefusal, undivided, of_texts}
 use Rattle.pair_text.specs.Laws.{SpelledTextsAreNotRefused, TextsHaveOneFirstRefusal, PairsReadInOneWay, PairsThatReadAreNotRefused, PairsHaveOneFirstRefusal}
-use Rattle.pair_text.proofs.Dividing.{one_division, never_lacks}
 
 -- two texts
 
@@ -30,19 +25,7 @@ one_texts_refusal source_text target_text r q (of_source refused) (of_source ref
 one_texts_refusal source_text target_text r q (of_source refused) (of_target p s spells refused' is) = absurd (spelled_unrefused source_text p r spells refused)
 one_texts_refusal source_text target_text r q (of_target p s spells refused is) (of_source refused') = absurd (spelled_unrefused source_text p q spells refused')
 one_texts_refusal source_text target_text r q (of_target p s spells refused is) (of_target p' s' spells' refused' is') =
-    is ∙ ap (moved (before_target source_text)) (one_first target_text s s' refused refused') ∙ sym is'
-
-pub texts_only : (source_text target_text : Text) (r : Result ProgramPair ParseFault) → IsTextsAnswer source_text target_text r → (p q : Program) → SpellTexts source_text target_text p q
-    → MatchResult r (λ x. (x.source ≡ p) × (x.target ≡ q)) (λ e. e ≡ parse_faults.NoMemory)
-texts_only source_text target_text (Ok x) h p q spelled = same_texts source_text target_text x.source x.target p q h spelled
-texts_only source_text target_text (Err (parse_faults.Refused rule line column)) h p q spelled = absurd (texts_unrefused source_text target_text p q _ spelled h)
-texts_only source_text target_text (Err parse_faults.NoMemory) h p q spelled = refl
-
-pub texts_exact : (source_text target_text : Text) (r : Result ProgramPair ParseFault) → IsTextsAnswer source_text target_text r → (q : Refusal) → IsFirstOfTexts source_text target_text q
-    → MatchResult r (λ _. ⊥) (λ e. IfRefused e (λ s. s ≡ q))
-texts_exact source_text target_text (Ok x) h q first = texts_unrefused source_text target_text x.source x.target q h first
-texts_exact source_text target_text (Err (parse_faults.Refused rule line column)) h q first = one_texts_refusal source_text target_text _ q h first
-texts_exact source_text target_text (Err parse_faults.NoMemory) h q first = tt
+    is ∙ ap (after_lines (newlines (before_target source_text))) (one_first target_text s s' refused refused') ∙ sym is'
 
 -- an input
 
@@ -67,16 +50,4 @@ one_pair_refusal input r q (undivided none is) (undivided none' is') = is ∙ sy
 one_pair_refusal input r q (undivided none is) (of_texts a b s divided refused is') = absurd (never_lacks target_word input a b divided none)
 one_pair_refusal input r q (of_texts a b s divided refused is) (undivided none is') = absurd (never_lacks target_word input a b divided none)
 one_pair_refusal input r q (of_texts a b s divided refused is) (of_texts a' b' s' divided' refused' is') =
-    is ∙ ap text_refusal (one_texts_refusal a' b' s s' (at_same (λ a b. IsFirstOfTexts a b s) input a b a' b' divided divided' refused) refused') ∙ sym is'
-
-pub pair_only : (input : Text) (r : Result ProgramPair PairFault) → IsPairAnswer input r → (p q : Program) → ReadsPair input p q
-    → MatchResult r (λ x. (x.source ≡ p) × (x.target ≡ q)) (λ e. e ≡ faults.NoMemory)
-pair_only input (Ok x) h p q reads = one_pair input x.source x.target p q h reads
-pair_only input (Err (faults.Refused rule line column)) h p q reads = absurd (pair_unrefused input p q _ reads h)
-pair_only input (Err faults.NoMemory) h p q reads = refl
-
-pub pair_exact : (input : Text) (r : Result ProgramPair PairFault) → IsPairAnswer input r → (q : PairRefusal) → IsFirstPairRefusal input q
-    → MatchResult r (λ _. ⊥) (λ e. IfPairRefused e (λ s. s ≡ q))
-pair_exact input (Ok x) h q first = pair_unrefused input x.source x.target q h first
-pair_exact input (Err (faults.Refused rule line column)) h q first = one_pair_refusal input _ q h first
-pair_exact input (Err faults.NoMemory) h q first = tt
+    is ∙ ap (ruled Grammar) (one_texts_refusal a' b' s s' (at_same (λ a b. IsFirstOfTexts a b s) input a b a' b' divided divided' refused) refused') ∙ sym is'

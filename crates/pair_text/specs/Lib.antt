@@ -1,4 +1,3 @@
-pub mod Division
 pub mod Refusals
 pub mod Reading
 pub mod Laws

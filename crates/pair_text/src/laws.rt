@@ -1,15 +1,7 @@
 //! Laws about texts of two programs: functions with an empty body, whose contracts are the laws.
 
-ghost use Rattle.pair_text.specs.Laws.{TextsDivideOrLack, TextsDivideInOneWay, DividedTextsLackNothing};
 ghost use Rattle.pair_text.specs.Laws.{TextsSpellOrAreRefused, SpelledTextsAreNotRefused, TextsHaveOneFirstRefusal};
 ghost use Rattle.pair_text.specs.Laws.{PairsReadOrAreRefused, PairsReadInOneWay, PairsThatReadAreNotRefused, PairsHaveOneFirstRefusal};
-
-/// At a word each text divides in one way, or it lacks the line.
-pub fn texts_divide_once()
-    ensures some { TextsDivideOrLack }
-    ensures one { TextsDivideInOneWay }
-    ensures apart { DividedTextsLackNothing }
-{}
 
 /// Two texts spell programs, or they have one first refusal.
 pub fn texts_have_one_answer()

@@ -1,14 +1,12 @@
 //! The text of two programs in one input: a source, the line `target`, and a target.
 //!
-//! `specs/Division.antt` has how a text divides at a line, `specs/Reading.antt` what an input reads as, and which refusal of
-//! another is the first.
+//! `specs/Reading.antt` has what an input reads as, and which refusal of another is the first. How a text divides at a line is
+//! in `text_parts`.
 #![tactic(auto)]
 
-mod division;
 mod fault;
 mod input;
 pub mod laws;
 
-pub use division::{divide_at_line, first_line};
-pub use fault::{PairFault, PairRule};
-pub use input::{ProgramPair, newlines, read_pair, read_texts};
+pub use fault::PairRule;
+pub use input::{ProgramPair, read_pair, read_texts};

@@ -12,7 +12,7 @@ use Rattle.il_paths.specs.Paths.{here}
 use Rattle.il_paths.proofs.Callers.{all_placed, all_heads_more}
 use Rattle.thread_core.specs.Programs.{function_at, body_in, code_of, IsProperHead}
 use Rattle.thread_core.specs.Frames.{Frame, blank, loaded, evaluated, function_result}
-use Rattle.thread_core.proofs.Placing.{proper_more}
+use Rattle.thread_core.proofs.Callers.{proper_more}
 use Rattle.validator.specs.Beside.{Beside}
 use Rattle.paired_threads.specs.Values.{register, RegistersBelow, ValuesBelow}
 use Rattle.paired_threads.specs.Functions.{old_registers}

@@ -1,5 +1,6 @@
 -- Facts along the path that was run stay true.
 use Rattle.std.proofs.Common.{◌≡◌, ℕ, Bool, true, false, cond, List, [], ◌∷◌, ◌++◌, Option, Some, None, refl, sym, ap, ◌∙◌, subst}
+use Rattle.std.proofs.lemmas.Bool.{false_from_ne_true}
 use Rattle.values_undef.specs.declared.value.Val.{Val}
 use Rattle.values_undef.specs.Value.{IsBelow}
 use Rattle.il_syntax.specs.declared.statement.Atom.{Atom}
@@ -55,10 +56,6 @@ heard_whole acquire Fresh f = refl
 pub owed_whole : (x : ℕ) (a : Atom) (h : Head) (l new : Level) → Kept h x a l new → owed (Some h) l ≡ l
 owed_whole x a h l new k = ap (λ (b : Bool). cond b Nothing (heard (is_acquire h) l)) k.no_call ∙ heard_whole (is_acquire h) l k.heard
 
-not_true : (b : Bool) → (b ≡ true → ⊥) → b ≡ false
-not_true true h = absurd (h refl)
-not_true false h = refl
-
 -- with no statement next all is owed, and before any statement no more
 pub owed_before : (path : List Visit) (next : Option Head) (registers : List Val) (read : ℕ → Val) (alone : ℕ → Type 0) → FactsHold path None registers read alone → FactsHold path next registers read alone
 owed_before path next registers read alone f = record {
@@ -101,7 +98,7 @@ module _ (path : List Visit) (v : Visit) (ts ts' : List Val) (read read' : ℕ �
   fresh_by x a new f (by_load r e g held) = let h : Held ≡ Fresh = sym held ∙ f in cc
   fresh_by x a new f (kept k) =
       let whole = owed_whole x a v.head (before x a) new k in
-      stay.alone_stays x k.not_stored k.no_call (not_true (is_release v.head) (λ w. k.handed w f)) (facts.fresh x a (whole ∙ k.fresh f))
+      stay.alone_stays x k.not_stored k.no_call (false_from_ne_true (is_release v.head) (λ w. k.handed w f)) (facts.fresh x a (whole ∙ k.fresh f))
 
   -- after the statement they hold for what is owed before the next one, whichever that is
   pub facts_go : FactsHold (path ++ v ∷ []) next ts' read' alone'

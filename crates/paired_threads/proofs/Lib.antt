@@ -1,10 +1,11 @@
-pub mod Beside
-pub mod Below
-pub mod Pending
-pub mod Wants
-pub mod GoOn
-pub mod FactLaws
-pub mod Calls
-pub mod Working
-pub mod Stacks
-pub mod Stepping
+mod Beside
+mod Below
+mod Pending
+mod Wants
+mod GoOn
+mod FactLaws
+mod Calls
+mod Working
+mod Stacks
+mod Stepping
+pub mod Callers

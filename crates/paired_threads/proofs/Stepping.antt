@@ -1,10 +1,10 @@
 -- Steps with an access: on both sides, turned, removed, inserted.
-use Rattle.std.proofs.Common.{◌≡◌, ℕ, ◌≤◌, Bool, true, false, cond, List, [], ◌∷◌, ◌++◌, length, set, Option, Some, None, refl, sym, ap, ◌∙◌, subst}
+use Rattle.std.proofs.Common.{◌≡◌, ℕ, ◌≤◌, Bool, true, false, cond, List, [], ◌∷◌, length, set, Option, Some, None, refl, sym, ap, subst}
 use Rattle.std.specs.List.{AllZip}
 use Rattle.values_undef.specs.Value.{IsBelow}
 use Rattle.values_undef.specs.declared.value.Val.{Val}
 use Rattle.values_undef.specs.declared.access.Event.{Event}
-use Rattle.values_undef.specs.declared.access.Event.TheVariants.{NaRead, NaWrite, Read, Write, Update as Updated, Miss, Fence as Fenced, Print as Printed, Fail, FailCompare, Finish, Spend}
+use Rattle.values_undef.specs.declared.access.Event.TheVariants.{NaRead, NaWrite, Read, Update as Updated, Miss}
 use Rattle.il_syntax.specs.declared.program.Program.{Program}
 use Rattle.il_syntax.specs.declared.statement.Atom.{Atom}
 use Rattle.il_syntax.specs.declared.statement.Stmt.TheOpen.{Skip, Copy, Load, Store}
@@ -13,8 +13,7 @@ use Rattle.il_paths.specs.Code.{Visit, Code, first, first_head, go, AllCode}
 use Rattle.thread_core.specs.Programs.{IsProperHead}
 use Rattle.il_paths.proofs.Callers.{all_go}
 use Rattle.values_undef.specs.Matching.{form_of, values_of, IsEventBelow}
-use Rattle.thread_core.specs.Frames.{Frame, Stack, evaluated, passed, gave, worked, told, target as register_of, target_of, given_by, advanced, advanced_at, resumed}
-use Rattle.validator.specs.Roles.{pends, pending_step}
+use Rattle.thread_core.specs.Frames.{Stack, evaluated, told, target as register_of, target_of, given_by, advanced, advanced_at, resumed}
 use Rattle.validator.specs.Beside.{Beside}
 use Rattle.paired_threads.specs.Stacks.{StacksPaired, StacksStep}
 use Rattle.paired_threads.proofs.Pending.{pends_more}
@@ -24,17 +23,10 @@ use Rattle.paired_threads.proofs.Working.{AreRegistersRelated, frame_after, rela
 
 abbrev gives : Event → Bool
 gives (NaRead x v) = true
-gives (NaWrite x v n) = false
 gives (Read y o v to) = true
-gives (Write y o v from to) = false
 gives (Updated y o old new read to) = true
 gives (Miss y o old read) = true
-gives (Fenced order) = false
-gives (Printed v) = false
-gives (Fail c) = false
-gives (FailCompare y read) = false
-gives Finish = false
-gives Spend = false
+gives e = false
 
 abbrev first_of : List Val → Option Val
 first_of [] = None
@@ -42,17 +34,7 @@ first_of (v ∷ vs) = Some v
 
 given_first : (e : Event) → given_by e ≡ cond (gives (form_of e)) (first_of (values_of e)) None
 given_first (NaRead x v) = refl
-given_first (NaWrite x v n) = refl
-given_first (Read y o v to) = refl
-given_first (Write y o v from to) = refl
-given_first (Updated y o old new read to) = refl
-given_first (Miss y o old read) = refl
-given_first (Fenced order) = refl
-given_first (Printed v) = refl
-given_first (Fail c) = refl
-given_first (FailCompare y read) = refl
-given_first Finish = refl
-given_first Spend = refl
+given_first e = refl
 
 -- both give nothing, or values of which the first is below
 pub data AreGivenBelow : Option Val → Option Val → Type 0 where

@@ -1,9 +1,9 @@
 -- A silent step in the top call.
-use Rattle.std.proofs.Common.{◌≡◌, ℕ, ◌+◌, ◌≤◌, Bool, true, false, cond, eqb, List, [], ◌∷◌, ◌++◌, length, set, Option, Some, None, refl, sym, ap, ◌∙◌, subst, ◌⊎◌, inl, inr, ⊎_elim}
-use Rattle.std.proofs.lemmas.Bool.{cases_Bool, cond-true, cond-false, eqb-false, true≢false, false≢true}
+use Rattle.std.proofs.Common.{◌≡◌, ℕ, ◌≤◌, Bool, true, false, cond, List, [], ◌∷◌, ◌++◌, length, set, Option, Some, None, refl, sym, ap, ◌∙◌, subst, ◌⊎◌, inl, inr, ⊎_elim}
+use Rattle.std.proofs.lemmas.Bool.{cases_Bool, cond-true, cond-false, eqb-false, false≢true}
 use Rattle.std.proofs.lemmas.List.{length-set, get_or-set_other}
 use Rattle.values_undef.specs.Value.{IsBelow}
-use Rattle.values_undef.specs.Arithmetic.{result_of, IsResultBelow}
+use Rattle.values_undef.specs.Arithmetic.{IsResultBelow}
 use Rattle.values_undef.specs.declared.value.Val.{Val}
 use Rattle.values_undef.specs.declared.value.Val.TheVariants.{Def, Undef}
 use Rattle.values_undef.proofs.Callers.{arithmetic_monotone}
@@ -12,9 +12,9 @@ use Rattle.il_syntax.specs.declared.statement.Atom.{Atom}
 use Rattle.il_syntax.specs.declared.statement.Atom.TheVariants.{Const, Reg}
 use Rattle.il_syntax.specs.declared.statement.Stmt.TheOpen.{Skip, Copy, Compute, Load, Store, AtomicLoad, AtomicStore, Update, Fence, Print, If, While, Call}
 use Rattle.il_syntax.specs.Statements.{Head}
-use Rattle.il_paths.specs.Code.{Visit, Code, first, first_head, go, AllCode}
-use Rattle.il_paths.specs.Paths.{RunsTo, here}
-use Rattle.il_paths.proofs.Callers.{runs_more, step_runs, all_go, all_first}
+use Rattle.il_paths.specs.Code.{Visit, Code, first, go, AllCode}
+use Rattle.il_paths.specs.Paths.{here}
+use Rattle.il_paths.proofs.Callers.{runs_more, step_runs, all_go}
 use Rattle.thread_core.specs.declared.next.Next.{Next}
 use Rattle.thread_core.specs.declared.next.Next.TheVariants as next
 use Rattle.thread_core.specs.Programs.{IsProperHead}
@@ -22,7 +22,8 @@ use Rattle.thread_core.specs.Frames.{Frame, evaluated, holds, next_at, decided, 
 use Rattle.flow_facts.specs.declared.level.Level.{Level}
 use Rattle.flow_facts.specs.declared.level.Level.TheVariants.{Nothing}
 use Rattle.flow_facts.specs.declared.transfer.Transfer.TheVariants.{Keeps, Becomes}
-use Rattle.flow_facts.specs.Levels.{atoms_equal, after_transfer, losing, level_by, level_on}
+use Rattle.flow_facts.specs.Levels.{after_transfer, losing, level_by, level_on}
+use Rattle.il_paths.specs.Atoms.{atoms_equal}
 use Rattle.validator.specs.declared.role.Role.{Role}
 use Rattle.validator.specs.declared.role.Role.TheVariants.{Same}
 use Rattle.validator.specs.Roles.{pends, pending_after_head}

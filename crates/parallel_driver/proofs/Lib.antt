@@ -1,2 +1,3 @@
-pub mod NeighbourLaws
-pub mod OkLaws
+mod NeighbourLaws
+mod OkLaws
+pub mod Callers

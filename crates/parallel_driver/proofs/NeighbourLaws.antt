@@ -4,15 +4,15 @@ use Rattle.std.specs.List.{AllZip, list_all}
 use Rattle.std.proofs.lemmas.Bool.{and_parts}
 use Rattle.il_syntax.specs.declared.program.Function.{Function}
 use Rattle.il_syntax.specs.declared.program.Program.{Program}
-use Rattle.il_syntax.specs.WellFormed.{Declared, declared_by, IsFunctionWellFormed}
-use Rattle.il_syntax.specs.Checks.{function_fits, globals_fit}
-use Rattle.il_syntax.proofs.Callers.{function_fits-is_well_formed, well_formed-program_fits}
+use Rattle.il_syntax.specs.WellFormed.{Declared, declared_by, with_functions, IsFunctionWellFormed}
+use Rattle.il_syntax.specs.Checks.{function_fits}
+use Rattle.il_syntax.proofs.Callers.{function_fits-is_well_formed, functions_fit}
 use Rattle.flow_facts.specs.declared.level.Kind.TheVariants.{Stores, Loads}
 use Rattle.validator.specs.Faults.{Accepts}
 use Rattle.validator.specs.Shape.{SameSignature}
 use Rattle.acceptance.proofs.Callers.{forwarded_is_accepted, introduced_is_accepted, undead_is_accepted}
 use Rattle.pass_chain.specs.declared.chains.FunctionChain.{FunctionChain}
-use Rattle.pass_chain.specs.Chain.{IsOpt, with_functions}
+use Rattle.pass_chain.specs.Chain.{IsOpt}
 use Rattle.pass_chain.proofs.Callers.{chain_fits, few_names}
 use Rattle.parallel_driver.specs.Neighbours.{IsAcceptedNeighbour, ChainsAreAccepted}
 
@@ -68,7 +68,7 @@ pub chains_are_accepted : ChainsAreAccepted
 chains_are_accepted p c w o =
     let d = declared_by p in
     let few = few_names p w in
-    let fits = (and_parts (list_all (function_fits d) p.functions) _ (and_parts (globals_fit p) _ (well_formed-program_fits p w)).1).0 in
+    let fits = functions_fit p w in
     let source = λ (k : FunctionChain). k.source in
     let stored = λ (k : FunctionChain). k.stored in
     let introduced = λ (k : FunctionChain). k.introduced in

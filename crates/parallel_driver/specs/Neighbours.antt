@@ -1,15 +1,12 @@
 -- Neighbouring programs of a chain: one shape, and each function an accepted target of the one before.
-use Rattle.std.specs.List.{AllZip}
 use Rattle.il_syntax.specs.declared.program.Program.{Program}
 use Rattle.il_syntax.specs.WellFormed.{IsWellFormed}
-use Rattle.validator.specs.Faults.{Accepts}
-use Rattle.validator.specs.Shape.{SameShape}
+use Rattle.validator.specs.Programs.{AreAcceptedPrograms}
 use Rattle.pass_chain.specs.declared.chains.ProgramChain.{ProgramChain}
 use Rattle.pass_chain.specs.Chain.{IsOptAll}
 
-pub record IsAcceptedNeighbour (source target : Program) : Type 0 where
-  pub shape : SameShape source target
-  pub functions : AllZip Accepts source.functions target.functions
+abbrev pub IsAcceptedNeighbour : Program → Program → Type 0
+IsAcceptedNeighbour = AreAcceptedPrograms
 
 pub record AreNeighbours (c : ProgramChain) : Type 0 where
   pub stored : IsAcceptedNeighbour c.source c.stored

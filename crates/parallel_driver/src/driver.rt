@@ -10,10 +10,9 @@ ghost use Rattle.pass_chain.specs.Laws.{AreWellFormed};
 ghost use Rattle.parallel_driver.specs.Neighbours.{AreNeighbours};
 
 use flow_facts::Facts;
-use il_syntax::{Function, Location, Names, Program};
+use il_syntax::{Function, Location, Names, Program, copy_name};
 use pass_chain::{FunctionChain, ProgramChain, chain, gather};
 use rayon::prelude::*;
-use rewriting::copy_name;
 use sqlite_items::Items;
 use std::alloc::Global;
 use std::thread::Threads;
@@ -104,5 +103,5 @@ pub fn optimise<F: Facts + Sync>(
     let names = names_of(alloc, p)?;
     let na = p.na.len() as u32;
     let chains = chains_of(rt, alloc, facts, p.functions.as_slice(), na, &names)?;
-    gather(alloc, p, chains.as_slice())
+    gather(alloc, p, chains)
 }

@@ -2,7 +2,7 @@
 use Rattle.std.proofs.Common.{◌≡◌, ℕ, List, [], ◌∷◌, length, map, refl, sym, ap, ◌∙◌, subst}
 use Rattle.std.specs.List.{AllZip}
 use Rattle.il_syntax.specs.declared.program.Function.{Function}
-use Rattle.il_syntax.specs.WellFormed.{names_of}
+use Rattle.il_syntax.specs.WellFormed.{names_of, with_functions}
 use Rattle.flow_facts.specs.declared.level.Kind.TheVariants.{Stores, Loads}
 use Rattle.forwarding.specs.Forwarded.{IsForwarded}
 use Rattle.forwarding.proofs.Callers.{forwarded_is_one}
@@ -11,7 +11,7 @@ use Rattle.load_hoist.proofs.Callers.{introduced_is_one}
 use Rattle.dead_store.specs.Undead.{IsUndead}
 use Rattle.dead_store.proofs.Callers.{undead_is_one}
 use Rattle.pass_chain.specs.declared.chains.FunctionChain.{FunctionChain}
-use Rattle.pass_chain.specs.Chain.{IsOpt, with_functions}
+use Rattle.pass_chain.specs.Chain.{IsOpt}
 use Rattle.pass_chain.specs.Laws.{OptIsOne, OptAllIsOne}
 
 pub opt_is_one : OptIsOne

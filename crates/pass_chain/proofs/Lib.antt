@@ -1,6 +1,7 @@
-pub mod ChainLaws
-pub mod WellFormedChains
-pub mod HoistedLoads
-pub mod Gathered
-pub mod CountLaws
+mod ChainLaws
+mod WellFormedChains
+mod HoistedLoads
+mod Gathered
+mod CountLaws
+mod SiteCounts
 pub mod Callers

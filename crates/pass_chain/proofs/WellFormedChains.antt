@@ -1,21 +1,22 @@
 -- The functions and programs of a chain are well-formed.
 use Rattle.std.proofs.Common.{◌≡◌, ◌<◌, ◌^◌, ℕ, true, ◌&&◌, nat_le, List, [], ◌∷◌, ◌++◌, length, map, length-append, refl, sym, ap, ◌∙◌, subst, arith}
+use Rattle.std.specs.Prelude.{Some}
 use Rattle.std.specs.List.{AllZip, list_all}
 use Rattle.std.proofs.lemmas.Bool.{and_parts, and_from, leb-true}
 use Rattle.std.proofs.lemmas.List.{length-map}
 use Rattle.il_syntax.specs.declared.program.Function.{Function}
 use Rattle.il_syntax.specs.declared.program.Location.{Location}
 use Rattle.il_syntax.specs.declared.program.Program.{Program}
-use Rattle.il_syntax.specs.WellFormed.{Declared, names_of, params_of, declared_by, distinct, IsFunctionWellFormed, IsWellFormed}
+use Rattle.il_syntax.specs.WellFormed.{Declared, names_of, params_of, declared_by, with_function, with_functions, IsFunctionWellFormed, IsWellFormed, Fits}
 use Rattle.il_syntax.specs.Checks.{is_declarable, function_fits, thread_fits, counts_fit, values_fit, globals_are_distinct, globals_fit}
-use Rattle.il_syntax.proofs.Callers.{function_fits-is_well_formed, well_formed-function_fits, globals-distinct, distinct-globals, program_fits-is_well_formed, well_formed-program_fits}
+use Rattle.il_syntax.proofs.Callers.{function_fits-is_well_formed, well_formed-function_fits, well_formed-program_fits, functions_fit, functions_replaced, fitting_functions_may_be_replaced, fitting_is_well_formed, names_of_changed}
 use Rattle.flow_facts.specs.declared.level.Kind.TheVariants.{Stores, Loads}
 use Rattle.forwarding.proofs.Callers.{forwarded_fits}
 use Rattle.load_hoist.proofs.Callers.{introduced_fits}
 use Rattle.dead_store.proofs.Callers.{undead_fits}
 use Rattle.pass_chain.specs.declared.chains.FunctionChain.{FunctionChain}
-use Rattle.pass_chain.specs.Chain.{IsOpt, with_functions}
-use Rattle.pass_chain.specs.Laws.{OptAllIsWellFormed}
+use Rattle.pass_chain.specs.Chain.{IsOpt}
+use Rattle.pass_chain.specs.Laws.{OptAllIsWellFormed, ChainsFit}
 
 -- a function that stands for f in a program
 pub record StandsFor (d : Declared) (f g : Function) : Type 0 where
@@ -38,40 +39,6 @@ chain_fits d f c few w o =
     let loaded : StandsFor d f c.loaded = record { well_formed = forwarded_fits Loads d c.introduced c.loaded introduced.well_formed o.loaded; name = o.loaded.changed.heads.name ∙ introduced.name; params = o.loaded.changed.heads.params ∙ introduced.params } in
     let undead : StandsFor d f c.undead = record { well_formed = undead_fits d c.loaded c.undead loaded.well_formed o.undead; name = o.undead.changed.heads.name ∙ loaded.name; params = o.undead.changed.heads.params ∙ loaded.params } in
     record { source = source; stored = stored; introduced = introduced; loaded = loaded; undead = undead }
-
--- A program whose functions are replaced by others of their names and parameters.
-module _ (p : Program) (gs : List Function) (names : map (λ (f : Function). f.name) gs ≡ map (λ (f : Function). f.name) p.functions) (params : map (λ (f : Function). f.params) gs ≡ map (λ (f : Function). f.params) p.functions) where
-  same_count : length gs ≡ length p.functions
-  same_count = sym (length-map gs (λ (f : Function). f.name)) ∙ ap length names ∙ length-map p.functions (λ (f : Function). f.name)
-
-  same_names : names_of (with_functions p gs) ≡ names_of p
-  same_names = ap (λ (ns : List (List ℕ)). map (λ (l : Location). l.name) p.na ++ (map (λ (l : Location). l.name) p.atomic ++ ns)) names
-
-  same_declared : declared_by (with_functions p gs) ≡ declared_by p
-  same_declared = λ i. record { names = same_names i; na = length p.na; atomic = length p.atomic; params = params i }
-
-  same_counts : counts_fit (with_functions p gs) ≡ counts_fit p
-  same_counts = ap (λ n. nat_le (length p.na) 16 && (nat_le (length p.atomic) 16 && (nat_le n 256 && (nat_le (length p.threads) 16 && nat_le 1 (length p.threads))))) same_count
-
-  pub functions_replaced : IsWellFormed p → list_all (function_fits (declared_by p)) gs ≡ true → IsWellFormed (with_functions p gs)
-  functions_replaced w fits =
-      let q = with_functions p gs in
-      let e = well_formed-program_fits p w in
-      let threads = list_all (thread_fits (params_of p)) p.threads in
-      let a = and_parts (globals_fit p) (list_all (function_fits (declared_by p)) p.functions && threads) e in
-      let b = and_parts (list_all (function_fits (declared_by p)) p.functions) threads a.1 in
-      let values = values_fit p.na && values_fit p.atomic in
-      let g = and_parts (counts_fit p) (list_all is_declarable (names_of p) && (globals_are_distinct p && values)) a.0 in
-      let h = and_parts (list_all is_declarable (names_of p)) (globals_are_distinct p && values) g.1 in
-      let k = and_parts (globals_are_distinct p) values h.1 in
-      let apart = distinct-globals q (ap distinct same_names ∙ globals-distinct p k.0) in
-      program_fits-is_well_formed q
-      (and_from (globals_fit q) (list_all (function_fits (declared_by q)) gs && list_all (thread_fits (params_of q)) p.threads)
-      (and_from (counts_fit q) (list_all is_declarable (names_of q) && (globals_are_distinct q && values)) (same_counts ∙ g.0)
-      (and_from (list_all is_declarable (names_of q)) (globals_are_distinct q && values) (ap (list_all is_declarable) same_names ∙ h.0)
-      (and_from (globals_are_distinct q) values apart k.1)))
-      (and_from (list_all (function_fits (declared_by q)) gs) (list_all (thread_fits (params_of q)) p.threads) (ap (λ (d : Declared). list_all (function_fits d) gs) same_declared ∙ fits)
-      (ap (λ (ps : List ℕ). list_all (thread_fits ps) p.threads) params ∙ b.1)))
 
 -- one of the five functions of each chain
 module _ (d : Declared) (few : length d.names < 2 ^ 32) (part : FunctionChain → Function) (fits : (f : Function) (c : FunctionChain) → ChainFits d f c → StandsFor d f (part c)) where
@@ -120,10 +87,7 @@ few_names p w =
 part_well_formed : (p : Program) → IsWellFormed p → (cs : List FunctionChain) → AllZip (IsOpt (length p.na) (names_of p)) p.functions cs →
     (part : FunctionChain → Function) → ((f : Function) (c : FunctionChain) → ChainFits (declared_by p) f c → StandsFor (declared_by p) f (part c)) → IsWellFormed (with_functions p (map part cs))
 part_well_formed p w cs z part fits =
-    let rest = list_all (thread_fits (params_of p)) p.threads in
-    let a = and_parts (globals_fit p) (list_all (function_fits (declared_by p)) p.functions && rest) (well_formed-program_fits p w) in
-    let b = and_parts (list_all (function_fits (declared_by p)) p.functions) rest a.1 in
-    let s = all_stand (declared_by p) (few_names p w) part fits p.functions cs b.0 z in
+    let s = all_stand (declared_by p) (few_names p w) part fits p.functions cs (functions_fit p w) z in
     functions_replaced p (map part cs) s.names s.params w s.fit
 
 pub opt_all_is_well_formed : OptAllIsWellFormed
@@ -135,3 +99,14 @@ opt_all_is_well_formed p c w o =
       loaded = subst IsWellFormed (sym o.loaded) (part_well_formed p w o.chains o.each (λ (k : FunctionChain). k.loaded) (λ f k s. s.loaded));
       undead = subst IsWellFormed (sym o.undead) (part_well_formed p w o.chains o.each (λ (k : FunctionChain). k.undead) (λ f k s. s.undead));
     }
+
+-- each function of a chain fits where the first one does
+pub chains_fit : ChainsFit
+chains_fit p f c fits o =
+    let q = with_function p f in
+    let d = declared_by q in
+    let w = fitting_is_well_formed p f fits in
+    let same = sym (names_of_changed p (Some f)) in
+    let parts = chain_fits d f c (few_names q fits.1) w (subst (λ (names : List (List ℕ)). IsOpt (length p.na) names f c) same o) in
+    let fit = λ (g : Function) (s : StandsFor d f g). fitting_functions_may_be_replaced p f g fits s.name s.params s.well_formed in
+    record { source = fit c.source parts.source; stored = fit c.stored parts.stored; introduced = fit c.introduced parts.introduced; loaded = fit c.loaded parts.loaded; undead = fit c.undead parts.undead }

@@ -3,15 +3,13 @@ use Rattle.std.specs.Prelude.{◌≡◌, ℕ, List, length, map}
 use Rattle.std.specs.List.{AllZip}
 use Rattle.il_syntax.specs.declared.program.Function.{Function}
 use Rattle.il_syntax.specs.declared.program.Program.{Program}
-use Rattle.il_syntax.specs.WellFormed.{names_of}
+use Rattle.il_syntax.specs.WellFormed.{names_of, with_functions}
 use Rattle.flow_facts.specs.declared.level.Kind.TheVariants.{Stores, Loads}
 use Rattle.forwarding.specs.Forwarded.{IsForwarded}
 use Rattle.load_hoist.specs.Introduced.{IsIntroduced}
 use Rattle.dead_store.specs.Undead.{IsUndead}
 use Rattle.pass_chain.specs.declared.chains.FunctionChain.{FunctionChain}
 use Rattle.pass_chain.specs.declared.chains.ProgramChain.{ProgramChain}
-use Rattle.pass_chain.specs.declared.chains.Stage.{Stage}
-use Rattle.pass_chain.specs.declared.chains.Stage.TheVariants.{Source, Stored, Introduced, Loaded, Undead}
 
 -- the five functions that the passes make of f, in a program with so many na locations and these names of
 -- locations and functions
@@ -21,18 +19,6 @@ pub record IsOpt (na : ℕ) (names : List (List ℕ)) (f : Function) (c : Functi
   pub introduced : IsIntroduced na names c.stored c.introduced
   pub loaded : IsForwarded Loads c.introduced c.loaded
   pub undead : IsUndead c.loaded c.undead
-
--- the program with these functions in the place of its own
-abbrev pub with_functions : Program → List Function → Program
-with_functions p functions = record p { functions = functions }
-
--- the function of a stage
-abbrev pub function_at : Stage → FunctionChain → Function
-function_at Source c = c.source
-function_at Stored c = c.stored
-function_at Introduced c = c.introduced
-function_at Loaded c = c.loaded
-function_at Undead c = c.undead
 
 -- the five programs, each function by its own chain
 pub record IsOptAll (p : Program) (c : ProgramChain) : Type 0 where

@@ -1,5 +1,5 @@
 -- What the passes did, in numbers.
-use Rattle.std.specs.Prelude.{ℕ, ◌+◌, ◌-◌, Bool, true, false, length, map, sum, count_by}
+use Rattle.std.specs.Prelude.{ℕ, ◌+◌, ◌-◌, Bool, true, false, ◌&&◌, if◌then◌else◌, List, [], ◌∷◌, length, map, sum, count_by}
 use Rattle.il_syntax.specs.declared.statement.Stmt.TheOpen.{Skip, Copy, Compute, Load, Store, AtomicLoad, AtomicStore, Update, Fence, Print, If, While, Call}
 use Rattle.il_syntax.specs.declared.program.Function.{Function}
 use Rattle.il_syntax.specs.declared.program.Program.{Program}
@@ -64,3 +64,28 @@ counts_of c =
       introduced = statements_of_program c.introduced - statements_of_program c.stored;
       removed = accesses Stores c.loaded - accesses Stores c.undead;
     }
+
+-- The same by sites.
+
+abbrev pub head_is_copy : Head → Bool
+head_is_copy (Copy r a) = true
+head_is_copy _ = false
+
+abbrev pub head_is_skip : Head → Bool
+head_is_skip Skip = true
+head_is_skip _ = false
+
+-- at how many sites a statement that passes the first test stands before, and one that passes the second after
+abbrev pub became : (was is : Head → Bool) → (before after : List Head) → ℕ
+became was is [] after = 0
+became was is (h ∷ before) [] = 0
+became was is (h ∷ before) (k ∷ after) = (if was h && is k then 1 else 0) + became was is before after
+
+-- over the functions of two programs
+abbrev pub became_in : (was is : Head → Bool) → (before after : List Function) → ℕ
+became_in was is [] gs = 0
+became_in was is (f ∷ fs) [] = 0
+became_in was is (f ∷ fs) (g ∷ gs) = became was is (heads_of_all f.body.statements) (heads_of_all g.body.statements) + became_in was is fs gs
+
+abbrev pub registers_of_program : Program → ℕ
+registers_of_program p = sum (map (λ (f : Function). length f.registers) p.functions)

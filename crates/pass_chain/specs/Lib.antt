@@ -1,3 +1,4 @@
 pub mod Chain
+pub mod Stages
 pub mod Counts
 pub mod Laws

@@ -1,14 +1,14 @@
 //! The five functions of a chain, and the five programs.
-ghost use Rattle.std.specs.Prelude.{◌≡◌, ◌≤◌, ◌<◌, ◌^◌, length, map, IfOk};
+ghost use Rattle.std.specs.Prelude.{◌≤◌, ◌<◌, ◌^◌, length, IfOk, OnOk};
 ghost use Rattle.std.specs.List.{AllZip};
 ghost use Rattle.il_syntax.specs.Statements.{site_count};
 ghost use Rattle.il_syntax.specs.WellFormed.{names_of};
-ghost use Rattle.pass_chain.specs.Chain.{IsOpt, IsOptAll, with_functions, function_at};
-ghost use Rattle.pass_chain.specs.declared.chains.FunctionChain.{FunctionChain};
+ghost use Rattle.pass_chain.specs.Chain.{IsOpt, IsOptAll};
+ghost use Rattle.pass_chain.specs.Stages.{ArePut, AreStages};
 
 use dead_store::drop_dead_stores;
 use flow_facts::Facts;
-use il_syntax::{Function, Functions, Names, Program, copy_function, copy_program};
+use il_syntax::{Function, Functions, Names, Program, copy_function, with_functions};
 use load_forward::forward_loads;
 use load_hoist::introduce_loads;
 use sqlite_items::Items;
@@ -65,72 +65,73 @@ pub fn chain<F: Facts>(
     })
 }
 
-/// The program with these functions in the place of its own.
-fn with_functions(alloc: Global, p: &Program, functions: Functions) -> Result<Program, NoMemory>
-    ensures { IfOk result (λ q. q ≡ with_functions p.now functions) }
-{
-    let mut q = copy_program(alloc, p)?;
-    q.functions = functions;
-    Ok(q)
+/// The functions of all chains, those of each stage in their order.
+#[derive(Drop)]
+pub struct Stages {
+    pub source: Functions,
+    pub stored: Functions,
+    pub introduced: Functions,
+    pub loaded: Functions,
+    pub undead: Functions,
 }
 
-/// Which of the five of a chain is meant.
-#[derive(Clone, Copy)]
-pub enum Stage {
-    Source,
-    Stored,
-    Introduced,
-    Loaded,
-    Undead,
+/// Puts the five functions of a chain to the ends of the lists.
+fn put_chain(stages: &mut Stages, chain: FunctionChain) -> Result<(), NoMemory>
+    ensures { OnOk result (ArePut chain stages.old stages.new) }
+{
+    let FunctionChain {
+        source,
+        stored,
+        introduced,
+        loaded,
+        undead,
+    } = chain;
+    stages.source.push(source)?;
+    stages.stored.push(stored)?;
+    stages.introduced.push(introduced)?;
+    stages.loaded.push(loaded)?;
+    stages.undead.push(undead)?;
+    Ok(())
 }
 
-fn function_at(chain: &FunctionChain, stage: Stage) -> &Function
-    ensures { result.now ≡ function_at stage chain.now }
+/// The chains taken apart, stage by stage: each function is moved.
+fn stages_of(alloc: Global, chains: Vec<FunctionChain>) -> Result<Stages, NoMemory>
+    ensures { IfOk result (λ stages. AreStages chains.items stages) }
 {
-    match stage {
-        Stage::Source => &chain.source,
-        Stage::Stored => &chain.stored,
-        Stage::Introduced => &chain.introduced,
-        Stage::Loaded => &chain.loaded,
-        Stage::Undead => &chain.undead,
-    }
-}
-
-/// The program of one stage of the chains of its functions.
-fn program_at(
-    alloc: Global,
-    p: &Program,
-    chains: &[FunctionChain],
-    stage: Stage,
-) -> Result<Program, NoMemory>
-    ensures { IfOk result (λ q. q ≡ with_functions p.now (map (λ (k : FunctionChain). function_at stage k) chains.now)) }
-{
-    let mut functions = Items::new(alloc);
+    let mut stages = Stages {
+        source: Items::new(alloc),
+        stored: Items::new(alloc),
+        introduced: Items::new(alloc),
+        loaded: Items::new(alloc),
+        undead: Items::new(alloc),
+    };
     for chain in chains {
-        functions.push(copy_function(alloc, function_at(chain, stage))?)?;
+        put_chain(&mut stages, chain)?;
     }
-    with_functions(alloc, p, functions)
+    Ok(stages)
 }
 
 /// The five programs, of the chains of the program's functions in their order. The only error is want of memory.
 pub fn gather(
     alloc: Global,
     p: &Program,
-    chains: &[FunctionChain],
+    chains: Vec<FunctionChain>,
 ) -> Result<ProgramChain, NoMemory>
-    requires { AllZip (IsOpt (length p.now.na) (names_of p.now)) p.now.functions chains.now }
+    requires { AllZip (IsOpt (length p.now.na) (names_of p.now)) p.now.functions chains.items }
     ensures { IfOk result (λ c. IsOptAll p.now c) }
 {
-    let source = program_at(alloc, p, chains, Stage::Source)?;
-    let stored = program_at(alloc, p, chains, Stage::Stored)?;
-    let introduced = program_at(alloc, p, chains, Stage::Introduced)?;
-    let loaded = program_at(alloc, p, chains, Stage::Loaded)?;
-    let undead = program_at(alloc, p, chains, Stage::Undead)?;
-    Ok(ProgramChain {
+    let Stages {
         source,
         stored,
         introduced,
         loaded,
         undead,
+    } = stages_of(alloc, chains)?;
+    Ok(ProgramChain {
+        source: with_functions(alloc, p, source)?,
+        stored: with_functions(alloc, p, stored)?,
+        introduced: with_functions(alloc, p, introduced)?,
+        loaded: with_functions(alloc, p, loaded)?,
+        undead: with_functions(alloc, p, undead)?,
     })
 }

@@ -6,7 +6,7 @@ use Rattle.il_paths.specs.Meets.{fold_backward, IsMeetAfter}
 use Rattle.path_meets.specs.Walks.{meet, meet_of_turns, enter}
 use Rattle.il_paths.specs.Code.{join}
 use Rattle.il_paths.specs.Paths.{RunsTo, here, on, into_yes_block, into_no_block, around, out}
-use Rattle.il_paths.proofs.Running.{runs_more, join-end, after_departs, departs_after}
+use Rattle.il_paths.proofs.Callers.{runs_more, join-end, after_departs, departs_after}
 use Rattle.path_meets.proofs.Forward.{least_is, least_rank, turned_rank, turned_closed, turned_monotone, Occurs}
 
 module _ (L : Type 0) (rank : L → ℕ) (turns : ℕ) (step : Visit → L → L) where

@@ -1,11 +1,11 @@
-pub mod Forward
-pub mod Tabled
-pub mod Backward
-pub mod AfterTable
-pub mod TreeWalks
-pub mod YesNo
-pub mod MeetLaws
-pub mod TreeSteps
-pub mod SitedSteps
-pub mod ExitLaws
+mod Forward
+mod Tabled
+mod Backward
+mod AfterTable
+mod TreeWalks
+mod YesNo
+mod MeetLaws
+mod TreeSteps
+mod SitedSteps
+mod ExitLaws
 pub mod Callers

@@ -18,19 +18,10 @@ use Rattle.view_machine.specs.declared.stepped.Stepped.TheVariants as stepped
 use Rattle.view_machine.specs.State.{State, local_in, with_local, view_in, next_in, idle, IsRunning, Allows, local_after_event, step_by, after_step, after_spend}
 use Rattle.view_machine.specs.Runs.{is_spend, after_silent, AreSilent, MakesAccess, MakesEventBy, MakesEvent, after_event_by, after_event, IsEntry, after_entry}
 use Rattle.view_machine.specs.Laws.{HasSilent, local_after_silent}
+use Rattle.thread_core.proofs.Callers.{silent_more, after_more}
 use Rattle.view_machine.proofs.Callers.{silent_steps_local}
 use Rattle.refinement.specs.Books.{entry_of}
 use Rattle.refinement.specs.Ahead.{IsAhead, AheadBegins, SilentStepsRunAhead, EventsAreEntries}
-
--- ---- one more silent step
-
-silent_more : (p : Program) (n : ℕ) (l : Stack) → HasSilent p n l → next_of (local_after_silent p n l) ≡ next.Silent → HasSilent p (suc n) l
-silent_more p zero l h e = (e, tt)
-silent_more p (suc n) l h e = (h.0, silent_more p n (advanced p l) h.1 e)
-
-local_more : (p : Program) (n : ℕ) (l : Stack) → local_after_silent p (suc n) l ≡ advanced p (local_after_silent p n l)
-local_more p zero l = refl
-local_more p (suc n) l = local_more p n (advanced p l)
 
 pub ahead_begins : AheadBegins
 ahead_begins p carry w zeros = record {
@@ -78,7 +69,7 @@ silent_steps_run_ahead p carry w u i in_carry h step quiet =
     there : local_in (with_local u i (advanced p (local_in u i))) i ≡ local_after_silent p (get_or (set carry i (get_or carry i 0 + 1)) i 0) (local_in w i)
     there =
         get_or-set_same u.locals i (advanced p (local_in u i)) idle step.able.there ∙ ap (advanced p) (h.local i in_w)
-        ∙ sym (local_more p (get_or carry i 0) (local_in w i)) ∙ ap (λ (n : ℕ). local_after_silent p n (local_in w i)) (sym more)
+        ∙ sym (after_more p (get_or carry i 0) (local_in w i)) ∙ ap (λ (n : ℕ). local_after_silent p n (local_in w i)) (sym more)
 
 -- ---- an event
 

@@ -1,16 +1,15 @@
 -- How journals end: which end in a failure, and that the ending is kept.
 use Rattle.std.proofs.Common.{◌≡◌, ℕ, suc, ◌-◌, Bool, true, false, cond, ◌||◌, ◌&&◌, eqb, List, [], ◌∷◌, ◌++◌, length, slice_get, Option, Some, refl, sym, ap, ◌∙◌, arith, inl, inr, ⊎_elim}
-use Rattle.std.proofs.lemmas.Bool.{cases_Bool, false≢true, true≢false, cond-false}
+use Rattle.std.proofs.lemmas.Bool.{cases_Bool, false≢true, cond-false}
 use Rattle.std.proofs.lemmas.List.{length-append}
 use Rattle.std.specs.List.{AllZip, list_all, range_with_len}
 use Rattle.std.specs.Option.{option_map_or}
-use Rattle.values_undef.specs.declared.access.Event.{Event}
-use Rattle.values_undef.specs.declared.access.Event.TheVariants.{NaRead, NaWrite, Read, Write, Update, Miss, Fence, Print, Fail, FailCompare, Finish, Spend}
 use Rattle.values_undef.specs.declared.journal.Entry.{Entry}
 use Rattle.values_undef.specs.declared.journal.Ending.TheVariants.{Done, Failed, Spent}
 use Rattle.values_undef.specs.Access.{is_failure}
 use Rattle.values_undef.specs.Journal.{last_fails, is_finish, finishes, has_finished, all_finished}
-use Rattle.values_undef.specs.Matching.{form_of, is_traced}
+use Rattle.values_undef.specs.Matching.{is_traced}
+use Rattle.values_undef.proofs.Callers.{finish_same, untraced_finishes_not}
 use Rattle.refinement.specs.Refinement.{Traced, trace, IsTracedBelow, EndsInFailure, FailsSooner}
 use Rattle.refinement.specs.Laws.{FailingEnds, EndingsAreKept}
 use Rattle.refinement.proofs.Traces.{trace_kept, trace_skipped}
@@ -47,24 +46,6 @@ failing_ends js = (end_fails js, fails_end js)
 
 -- ---- who has finished
 
-form_finishes : (e : Event) → is_finish (form_of e) ≡ is_finish e
-form_finishes (NaRead x v) = refl
-form_finishes (NaWrite x v n) = refl
-form_finishes (Read y o v to) = refl
-form_finishes (Write y o v from to) = refl
-form_finishes (Update y o old new read to) = refl
-form_finishes (Miss y o old read) = refl
-form_finishes (Fence o) = refl
-form_finishes (Print n) = refl
-form_finishes (Fail c) = refl
-form_finishes (FailCompare y read) = refl
-form_finishes Finish = refl
-form_finishes Spend = refl
-
-untraced_finishes_not : (e : Event) → is_traced e ≡ false → is_finish e ≡ false
-untraced_finishes_not Finish h = absurd (true≢false h)
-untraced_finishes_not e h = refl
-
 -- the thread has finished in the trace
 abbrev finished : ℕ → List Traced → Bool
 finished i [] = false
@@ -86,7 +67,7 @@ finished_trace (e ∷ js) i =
 below_finishes : (i : ℕ) (a b : Traced) → IsTracedBelow a b → (eqb a.thread i && is_finish a.event) ≡ (eqb b.thread i && is_finish b.event)
 below_finishes i a b p =
     ap (λ (n : ℕ). eqb n i && is_finish a.event) p.thread
-    ∙ ap (λ (c : Bool). eqb b.thread i && c) (sym (form_finishes a.event) ∙ ap is_finish p.event.form ∙ form_finishes b.event)
+    ∙ ap (λ (c : Bool). eqb b.thread i && c) (finish_same a.event b.event p.event)
 
 zip_finished : (i : ℕ) (xs ys : List Traced) → AllZip IsTracedBelow xs ys → finished i xs ≡ finished i ys
 zip_finished i [] [] z = refl

@@ -6,11 +6,12 @@ use Rattle.std.specs.List.{AllZip}
 use Rattle.values_undef.specs.declared.access.Event.{Event}
 use Rattle.values_undef.specs.Journal.{used_steps}
 use Rattle.values_undef.specs.Matching.{IsEventBelow, is_traced}
+use Rattle.values_undef.proofs.Callers.{traced_same, weight_same, failure_weight, untraced_weight}
 use Rattle.values_undef.specs.declared.journal.Entry.{Entry}
 use Rattle.refinement.specs.Refinement.{Traced, trace, IsTracedBelow, BeginsBelow}
 use Rattle.values_undef.specs.Access.{weight}
 use Rattle.refinement.specs.Books.{at_thread, entry_of, BooksBegin, BooksOpen, SilentStepsAreCarried, QuietStepsAreRecorded, EventsAreRecorded, NewsAreLeftOut, BooksRefine, FailuresRefine}
-use Rattle.refinement.proofs.Traces.{traced, trace_kept, trace_skipped, trace-append, traced_same, weight_same, failure_weight, untraced_weight, zip_append, zip_begins, begins_more, used_steps-append, IsAt, IsElsewhere, at_or_elsewhere}
+use Rattle.refinement.proofs.Traces.{traced, trace_kept, trace_skipped, trace-append, zip_append, zip_begins, begins_more, used_steps-append, IsAt, IsElsewhere, at_or_elsewhere}
 
 pub books_begin : BooksBegin
 books_begin news carry zero = record {

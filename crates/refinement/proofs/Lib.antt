@@ -1,9 +1,12 @@
-pub mod Traces
-pub mod Refining
-pub mod Printing
-pub mod Keeping
-pub mod Ahead
-pub mod Counting
-pub mod Playings
-pub mod Ends
-pub mod Examples
+mod Traces
+mod Refining
+mod Printing
+mod Keeping
+mod Ahead
+mod Counting
+mod Playings
+mod Ends
+mod Examples
+mod EventsPlayed
+mod RunsPlayed
+pub mod Callers

@@ -3,9 +3,9 @@ use Rattle.std.proofs.Common.{◌≡◌, ℕ, zero, suc, ◌+◌, ◌-◌, ◌*�
 use Rattle.std.proofs.lemmas.Bool.{false≢true, true≢false, both_ways}
 use Rattle.std.proofs.lemmas.List.{length-set, length-map, length-replicate, take-append-drop}
 use Rattle.std.proofs.lemmas.Option.{none-some, same_Some}
-use Rattle.values_undef.specs.Access.{choice_of_event, is_failure, ends_thread, weight}
+use Rattle.values_undef.specs.Access.{choice_of_event, is_failure, ends_thread, is_read, weight}
 use Rattle.values_undef.specs.declared.value.Val.{Val}
-use Rattle.values_undef.proofs.Callers.{event_refl}
+use Rattle.values_undef.proofs.Callers.{event_refl, failure_same, spend_same, failure_no_spend, untraced_no_spend, untraced_goes, goes_no_spend}
 use Rattle.values_undef.specs.Journal.{used_steps}
 use Rattle.values_undef.specs.declared.access.Choice.{Choice}
 use Rattle.values_undef.specs.declared.access.Choice.TheVariants.{Plain}
@@ -16,7 +16,7 @@ use Rattle.il_syntax.specs.declared.program.Program.{Program}
 use Rattle.message_memory.specs.Step.{step_result, MemStep}
 use Rattle.message_memory.proofs.Callers.{step_choice}
 use Rattle.view_machine.specs.State.{view_in, Allows, State, next_in, IsStep, IsRunning, step_by, after_step, IsSpendable, after_spend, initial_state}
-use Rattle.values_undef.specs.Matching.{form_of, IsEventBelow, is_traced, without_place}
+use Rattle.values_undef.specs.Matching.{IsEventBelow, is_traced, without_place}
 use Rattle.thread_core.specs.Programs.{IsProperProgram}
 use Rattle.thread_core.specs.Steps.{stack_in}
 use Rattle.thread_core.specs.declared.next.Next.{Next}
@@ -28,11 +28,10 @@ use Rattle.view_machine.specs.Runs.{is_spend, MakesEvent, MakesEventBy, after_ev
 use Rattle.view_machine.proofs.Callers.{run_goes_on, runs_have_room, runs_short}
 use Rattle.refinement.specs.Refinement.{Refines, EndsInFailure}
 use Rattle.refinement.specs.Books.{at_thread, entry_of, recorded, OpenBooks, ClosedBooks}
-use Rattle.message_memory.specs.EventLaws.{is_read}
 use Rattle.refinement.specs.Playing.{HasFailed, IsQuiet, HasDone, LeadsOn, PlaysStep, PlaysSteps, PlaysAccess, PlaysEnd, PlaysLoad, PlaysEvent, IsPlayable, at_load}
 use Rattle.refinement.specs.Ahead.{IsAhead}
 use Rattle.refinement.specs.Playings.{Played, IsNoted, IsMade, IsRecorded, IsSame, IsNoStep, IsReady, IsOpen, IsOver, IsPlayed, AreFew}
-use Rattle.refinement.proofs.Traces.{used_steps-append, IsAt, IsElsewhere, at_or_elsewhere, failure_same}
+use Rattle.refinement.proofs.Traces.{used_steps-append, IsAt, IsElsewhere, at_or_elsewhere}
 use Rattle.refinement.proofs.Keeping.{books_begin, books_refine, books_open, silent_carried, quiet_recorded, events_recorded, news_left_out, failures_refine}
 use Rattle.refinement.proofs.Ahead.{ahead_begins, silent_steps_run_ahead, events_are_entries}
 use Rattle.views.proofs.Callers.{get_or-zeros}
@@ -73,81 +72,6 @@ step_is_access p u i c f h d q =
       });
       after = ap (after_event_by p u i f) q ∙ ap (λ (x : Choice). (after_step p u i x).state) same;
     }
-
--- ---- what kinds of events never end a budget
-
-untraced_no_spend : (f : Event) → is_traced f ≡ false → is_spend f ≡ false
-untraced_no_spend (event.NaRead x v) h = refl
-untraced_no_spend (event.NaWrite x v n) h = refl
-untraced_no_spend (event.Read y o v to) h = refl
-untraced_no_spend (event.Write y o v from to) h = refl
-untraced_no_spend (event.Update y o old new read to) h = refl
-untraced_no_spend (event.Miss y o old read) h = refl
-untraced_no_spend (event.Fence order) h = refl
-untraced_no_spend (event.Print v) h = refl
-untraced_no_spend (event.Fail c) h = refl
-untraced_no_spend (event.FailCompare y read) h = refl
-untraced_no_spend event.Finish h = refl
-untraced_no_spend event.Spend h = absurd (true≢false h)
-
-failure_no_spend : (f : Event) → is_failure f ≡ true → is_spend f ≡ false
-failure_no_spend (event.NaRead x v) h = refl
-failure_no_spend (event.NaWrite x v n) h = refl
-failure_no_spend (event.Read y o v to) h = refl
-failure_no_spend (event.Write y o v from to) h = refl
-failure_no_spend (event.Update y o old new read to) h = refl
-failure_no_spend (event.Miss y o old read) h = refl
-failure_no_spend (event.Fence order) h = refl
-failure_no_spend (event.Print v) h = refl
-failure_no_spend (event.Fail c) h = refl
-failure_no_spend (event.FailCompare y read) h = refl
-failure_no_spend event.Finish h = refl
-failure_no_spend event.Spend h = absurd (false≢true h)
-
-form_spend : (f : Event) → is_spend (form_of f) ≡ is_spend f
-form_spend (event.NaRead x v) = refl
-form_spend (event.NaWrite x v n) = refl
-form_spend (event.Read y o v to) = refl
-form_spend (event.Write y o v from to) = refl
-form_spend (event.Update y o old new read to) = refl
-form_spend (event.Miss y o old read) = refl
-form_spend (event.Fence order) = refl
-form_spend (event.Print v) = refl
-form_spend (event.Fail c) = refl
-form_spend (event.FailCompare y read) = refl
-form_spend event.Finish = refl
-form_spend event.Spend = refl
-
-below_no_spend : (e f : Event) → IsEventBelow e f → is_spend e ≡ false → is_spend f ≡ false
-below_no_spend e f b h = sym (form_spend f) ∙ ap is_spend (sym b.form) ∙ form_spend e ∙ h
-
-untraced_goes : (f : Event) → is_traced f ≡ false → is_failure f ≡ false
-untraced_goes (event.NaRead x v) h = refl
-untraced_goes (event.NaWrite x v n) h = refl
-untraced_goes (event.Read y o v to) h = refl
-untraced_goes (event.Write y o v from to) h = refl
-untraced_goes (event.Update y o old new read to) h = refl
-untraced_goes (event.Miss y o old read) h = refl
-untraced_goes (event.Fence order) h = refl
-untraced_goes (event.Print v) h = refl
-untraced_goes (event.Fail c) h = absurd (true≢false h)
-untraced_goes (event.FailCompare y read) h = absurd (true≢false h)
-untraced_goes event.Finish h = refl
-untraced_goes event.Spend h = refl
-
-goes_no_spend : (e : Event) → ends_thread e ≡ false → is_spend e ≡ false
-goes_no_spend (event.NaRead x v) h = refl
-goes_no_spend (event.NaWrite x v n) h = refl
-goes_no_spend (event.Read y o v to) h = refl
-goes_no_spend (event.Write y o v from to) h = refl
-goes_no_spend (event.Update y o old new read to) h = refl
-goes_no_spend (event.Miss y o old read) h = refl
-goes_no_spend (event.Fence order) h = refl
-goes_no_spend (event.Print v) h = refl
-goes_no_spend (event.Fail c) h = refl
-goes_no_spend (event.FailCompare y read) h = refl
-goes_no_spend event.Finish h = refl
-goes_no_spend event.Spend h = absurd (true≢false h)
 
 -- ---- what is recorded
 
@@ -382,7 +306,7 @@ module _ (p : Program) (news : Bool) (done : List Entry) (entry : Entry) (rest :
             (λ g. absurd (false≢true (sym g ∙ r.3 ∙ fails)), λ _. over f w' failed fails (room_for h) r)
         by_done (stepped.Did f) e (inr q) =
             let below : IsEventBelow entry.event f = subst (HasDone entry.event) e q.0 in
-            let r = access_recorded p entry.thread (choice_of_event entry.event) f w w' failed there o.recorded m e (below_no_spend entry.event f below (goes_no_spend entry.event h)) in (
+            let r = access_recorded p entry.thread (choice_of_event entry.event) f w w' failed there o.recorded m e (sym (spend_same entry.event f below) ∙ goes_no_spend entry.event h) in (
               λ _. record { recorded = r.0; playable = subst (λ (x : State). IsPlayable p news x rest) m.state q.1; books = closed f w' there below r.1 r.2 },
               λ g. over f w' failed (sym r.3 ∙ g) (room_for h) r,
             )
@@ -433,7 +357,7 @@ module _ (p : Program) (news : Bool) (done : List Entry) (entry : Entry) (rest :
         by_done stepped.Silent g q = absurd q
         by_done (stepped.Did f) g q =
             let below : IsEventBelow entry.event f = subst (λ (d : Event). IsEventBelow d f) (sym e) q in
-            let r = access_recorded p entry.thread Plain f w w' failed there o.recorded m g (below_no_spend event.Finish f q refl) in (
+            let r = access_recorded p entry.thread Plain f w w' failed there o.recorded m g (sym (spend_same event.Finish f q)) in (
               r.3 ∙ sym (failure_same event.Finish f q),
               record { recorded = r.0; playable = subst (λ (x : State). IsPlayable p news x rest) m.state played.leads; books = closed f w' there below r.1 r.2 },
             )
@@ -465,20 +389,17 @@ opens p news done entry rest w r = record {
 
 -- ---- the beginning and the end
 
-zeros_at : (n i : ℕ) → get_or {A = ℕ} (replicate n 0) i 0 ≡ 0
-zeros_at n i = get_or-zeros n i
-
 pub begins : (p : Program) (news : Bool) (js : List Entry) (h : Held) → state_in p h ≡ initial_state p → IsOf p h → IsPlayable p news (initial_state p) js → IsReady p news [] js (record { machine = h; silent = replicate (length p.threads) 0; entries = [] })
 begins p news js h state program playable = record {
   recorded = record {
     state = initial_state p;
     run = record { run = tt; state = refl };
-    ahead = subst (IsAhead p (replicate (length p.threads) 0) (initial_state p)) (sym state) (ahead_begins p (replicate (length p.threads) 0) (initial_state p) (zeros_at (length p.threads)));
+    ahead = subst (IsAhead p (replicate (length p.threads) 0) (initial_state p)) (sym state) (ahead_begins p (replicate (length p.threads) 0) (initial_state p) (get_or-zeros (length p.threads)));
     threads = length-replicate {A = ℕ} (length p.threads) 0;
     program = program;
   };
   playable = subst (λ (x : State). IsPlayable p news x js) (sym state) playable;
-  books = books_begin news (replicate (length p.threads) 0) (zeros_at (length p.threads));
+  books = books_begin news (replicate (length p.threads) 0) (get_or-zeros (length p.threads));
 }
 
 pub ends : (p : Program) (news : Bool) (all : List Entry) (w : Played) → IsReady p news all [] w → IsPlayed p news all w.entries
@@ -490,22 +411,6 @@ ends p news all w r = record {
 
 pub stops : (p : Program) (news : Bool) (all : List Entry) (w : Played) → IsOver p all w → IsPlayed p news all w.entries
 stops p news all w r = record { run = r.run; refines = r.refines; exact = λ e. inl r.fails }
-
--- ---- forms of events
-
-pub end_is_finish : (e : Event) → ends_thread e ≡ true → is_spend e ≡ false → e ≡ event.Finish
-end_is_finish (event.NaRead x v) h q = absurd (false≢true h)
-end_is_finish (event.NaWrite x v n) h q = absurd (false≢true h)
-end_is_finish (event.Read y o v to) h q = absurd (false≢true h)
-end_is_finish (event.Write y o v from to) h q = absurd (false≢true h)
-end_is_finish (event.Update y o old new read to) h q = absurd (false≢true h)
-end_is_finish (event.Miss y o old read) h q = absurd (false≢true h)
-end_is_finish (event.Fence order) h q = absurd (false≢true h)
-end_is_finish (event.Print v) h q = absurd (false≢true h)
-end_is_finish (event.Fail c) h q = absurd (false≢true h)
-end_is_finish (event.FailCompare y read) h q = absurd (false≢true h)
-end_is_finish event.Finish h q = refl
-end_is_finish event.Spend h q = absurd (true≢false q)
 
 -- ---- the second try
 
@@ -529,20 +434,6 @@ module _ (p : Program) (news : Bool) (done : List Entry) (entry : Entry) (rest :
   again_fails d e w2 failed m =
       other_fails p news done entry rest entry.silent w' (again_open p news done entry rest c w w' n o) refl w2 failed goes load_there not_there
       (subst (λ (x : Choice). IsMade p entry.thread x w' w2 failed) (e ∙ ap without_place is) m)
-
-pub is_nonatomic_read : (e : Event) → is_read e ≡ true → (x : ℕ) × (v : Val) × (e ≡ event.NaRead x v)
-is_nonatomic_read (event.NaRead x v) h = (x, v, refl)
-is_nonatomic_read (event.NaWrite x v n) h = absurd (false≢true h)
-is_nonatomic_read (event.Read y o v to) h = absurd (false≢true h)
-is_nonatomic_read (event.Write y o v from to) h = absurd (false≢true h)
-is_nonatomic_read (event.Update y o old new read to) h = absurd (false≢true h)
-is_nonatomic_read (event.Miss y o old read) h = absurd (false≢true h)
-is_nonatomic_read (event.Fence order) h = absurd (false≢true h)
-is_nonatomic_read (event.Print v) h = absurd (false≢true h)
-is_nonatomic_read (event.Fail c) h = absurd (false≢true h)
-is_nonatomic_read (event.FailCompare y read) h = absurd (false≢true h)
-is_nonatomic_read event.Finish h = absurd (false≢true h)
-is_nonatomic_read event.Spend h = absurd (false≢true h)
 
 -- an event that is no read, or is one at a load
 pub loads_there : (b : Bool) (e : Event) → is_read e ≡ false ⊎ (b ≡ true) → (x : ℕ) (v : Val) → e ≡ event.NaRead x v → b ≡ true

@@ -1,41 +1,15 @@
 -- What is printed.
-use Rattle.std.proofs.Common.{◌≡◌, ℕ, true, false, List, [], ◌∷◌, ◌++◌, refl, sym, ap, ◌∙◌, inl, inr, ⊎_elim, append_assoc}
-use Rattle.std.proofs.lemmas.Bool.{cases_Bool, false≢true}
+use Rattle.std.proofs.Common.{◌≡◌, true, false, List, [], ◌∷◌, ◌++◌, refl, sym, ap, ◌∙◌, inl, inr, ⊎_elim, append_assoc}
+use Rattle.std.proofs.lemmas.Bool.{cases_Bool}
 use Rattle.std.proofs.lemmas.List.{append-nil}
 use Rattle.std.specs.List.{AllZip}
-use Rattle.values_undef.specs.declared.access.Event.{Event}
-use Rattle.values_undef.specs.declared.access.Event.TheVariants.{NaRead, NaWrite, Read, Write, Update, Miss, Fence, Print, Fail, FailCompare, Finish, Spend}
-use Rattle.values_undef.specs.Access.{is_failure}
 use Rattle.values_undef.specs.Journal.{Output, printed, outputs_of}
-use Rattle.values_undef.specs.Matching.{form_of, is_traced}
+use Rattle.values_undef.specs.Matching.{is_traced}
+use Rattle.values_undef.proofs.Callers.{printed_same, untraced_prints_not, failure_prints_not}
 use Rattle.values_undef.specs.declared.journal.Entry.{Entry}
 use Rattle.refinement.specs.Refinement.{Traced, trace, IsTracedBelow, BeginsBelow, EndsInFailure, FailsSooner}
 use Rattle.refinement.specs.Laws.{OutputsAreKept}
 use Rattle.refinement.proofs.Traces.{trace_kept, trace_skipped}
-
-form_printed : (i : ℕ) (e : Event) → printed i (form_of e) ≡ printed i e
-form_printed i (NaRead x v) = refl
-form_printed i (NaWrite x v n) = refl
-form_printed i (Read y o v to) = refl
-form_printed i (Write y o v from to) = refl
-form_printed i (Update y o old new read to) = refl
-form_printed i (Miss y o old read) = refl
-form_printed i (Fence order) = refl
-form_printed i (Print n) = refl
-form_printed i (Fail c) = refl
-form_printed i (FailCompare y read) = refl
-form_printed i Finish = refl
-form_printed i Spend = refl
-
-untraced_prints_not : (i : ℕ) (e : Event) → is_traced e ≡ false → printed i e ≡ []
-untraced_prints_not i (Fence order) h = absurd (false≢true (sym h))
-untraced_prints_not i (Print n) h = absurd (false≢true (sym h))
-untraced_prints_not i e h = refl
-
-failure_prints_not : (i : ℕ) (e : Event) → is_failure e ≡ true → printed i e ≡ []
-failure_prints_not i (Fence order) h = absurd (false≢true h)
-failure_prints_not i (Print n) h = absurd (false≢true h)
-failure_prints_not i e h = refl
 
 -- what a trace prints
 abbrev prints : List Traced → List Output
@@ -52,7 +26,7 @@ outputs_trace (e ∷ js) =
     (cases_Bool (is_traced e.event))
 
 below_prints : (a b : Traced) → IsTracedBelow a b → printed a.thread a.event ≡ printed b.thread b.event
-below_prints a b p = sym (form_printed a.thread a.event) ∙ ap (printed a.thread) p.event.form ∙ form_printed a.thread b.event ∙ ap (λ i. printed i b.event) p.thread
+below_prints a b p = printed_same a.thread a.event b.event p.event ∙ ap (λ i. printed i b.event) p.thread
 
 zip_prints : (xs ys : List Traced) → AllZip IsTracedBelow xs ys → prints xs ≡ prints ys
 zip_prints [] [] z = refl

@@ -5,10 +5,11 @@ use Rattle.std.proofs.lemmas.List.{length-append}
 use Rattle.std.specs.List.{AllZip}
 use Rattle.values_undef.specs.Access.{is_failure}
 use Rattle.values_undef.specs.Matching.{is_traced}
+use Rattle.values_undef.proofs.Callers.{failure_same, failure_traced}
 use Rattle.values_undef.specs.declared.journal.Entry.{Entry}
 use Rattle.refinement.specs.Refinement.{Traced, trace, IsTracedBelow, BeginsBelow, EndsInFailure, StopsAtFailure, FailsSooner}
 use Rattle.refinement.specs.Laws.{RefinesIsReflexive, RefinesIsTransitive, FailuresAreKept}
-use Rattle.refinement.proofs.Traces.{traced, trace_kept, trace_skipped, trace-append, failure_same, failure_traced, zip_refl, zip_trans, zip_begins, begins_trans}
+use Rattle.refinement.proofs.Traces.{traced, trace_kept, trace_skipped, trace-append, zip_refl, zip_trans, zip_begins, begins_trans}
 
 pub refines_refl : RefinesIsReflexive
 refines_refl js = record { cases = inl (zip_refl (trace js)); steps = λ i. omega arith }

@@ -1,84 +1,13 @@
 -- Traces and used_steps steps of journals.
 use Rattle.std.proofs.Common.{◌≡◌, ℕ, ◌+◌, Bool, true, false, cond, eqb, List, [], ◌∷◌, ◌++◌, refl, sym, ap, ◌∙◌, arith, ◌⊎◌, inl, inr, ⊎_elim}
-use Rattle.std.proofs.lemmas.Bool.{cond-true, cond-false, cases_eq, eq-eqb, ne_eqb, false≢true}
+use Rattle.std.proofs.lemmas.Bool.{cond-true, cond-false, cases_eq, eq-eqb, ne_eqb}
 use Rattle.std.specs.List.{AllZip}
-use Rattle.values_undef.specs.declared.access.Event.{Event}
-use Rattle.values_undef.specs.declared.access.Event.TheVariants.{NaRead, NaWrite, Read, Write, Update, Miss, Fence, Print, Fail, FailCompare, Finish, Spend}
-use Rattle.values_undef.specs.Access.{is_failure, weight}
 use Rattle.values_undef.specs.Journal.{used_steps}
-use Rattle.values_undef.specs.Matching.{form_of, IsEventBelow, is_traced}
+use Rattle.values_undef.specs.Matching.{is_traced}
 use Rattle.refinement.specs.Books.{at_thread}
 use Rattle.values_undef.proofs.Callers.{event_refl, event_trans}
 use Rattle.values_undef.specs.declared.journal.Entry.{Entry}
 use Rattle.refinement.specs.Refinement.{Traced, trace, IsTracedBelow, BeginsBelow}
-
--- ---- what the form of an event tells
-
-form_traced : (e : Event) → is_traced (form_of e) ≡ is_traced e
-form_traced (NaRead x v) = refl
-form_traced (NaWrite x v n) = refl
-form_traced (Read y o v to) = refl
-form_traced (Write y o v from to) = refl
-form_traced (Update y o old new read to) = refl
-form_traced (Miss y o old read) = refl
-form_traced (Fence order) = refl
-form_traced (Print n) = refl
-form_traced (Fail c) = refl
-form_traced (FailCompare y read) = refl
-form_traced Finish = refl
-form_traced Spend = refl
-
-form_weight : (e : Event) → weight (form_of e) ≡ weight e
-form_weight (NaRead x v) = refl
-form_weight (NaWrite x v n) = refl
-form_weight (Read y o v to) = refl
-form_weight (Write y o v from to) = refl
-form_weight (Update y o old new read to) = refl
-form_weight (Miss y o old read) = refl
-form_weight (Fence order) = refl
-form_weight (Print n) = refl
-form_weight (Fail c) = refl
-form_weight (FailCompare y read) = refl
-form_weight Finish = refl
-form_weight Spend = refl
-
-form_failure : (e : Event) → is_failure (form_of e) ≡ is_failure e
-form_failure (NaRead x v) = refl
-form_failure (NaWrite x v n) = refl
-form_failure (Read y o v to) = refl
-form_failure (Write y o v from to) = refl
-form_failure (Update y o old new read to) = refl
-form_failure (Miss y o old read) = refl
-form_failure (Fence order) = refl
-form_failure (Print n) = refl
-form_failure (Fail c) = refl
-form_failure (FailCompare y read) = refl
-form_failure Finish = refl
-form_failure Spend = refl
-
-pub traced_same : (e f : Event) → IsEventBelow e f → is_traced e ≡ is_traced f
-traced_same e f b = sym (form_traced e) ∙ ap is_traced b.form ∙ form_traced f
-
-pub weight_same : (e f : Event) → IsEventBelow e f → weight e ≡ weight f
-weight_same e f b = sym (form_weight e) ∙ ap weight b.form ∙ form_weight f
-
-pub failure_same : (e f : Event) → IsEventBelow e f → is_failure e ≡ is_failure f
-failure_same e f b = sym (form_failure e) ∙ ap is_failure b.form ∙ form_failure f
-
-pub failure_traced : (e : Event) → is_failure e ≡ true → is_traced e ≡ true
-failure_traced (NaRead x v) h = absurd (false≢true h)
-failure_traced (NaWrite x v n) h = absurd (false≢true h)
-failure_traced e h = refl
-
-pub failure_weight : (e : Event) → is_failure e ≡ true → weight e ≡ 1
-failure_weight Finish h = absurd (false≢true h)
-failure_weight Spend h = absurd (false≢true h)
-failure_weight e h = refl
-
-pub untraced_weight : (e : Event) → is_traced e ≡ false → weight e ≡ 1
-untraced_weight Finish h = absurd (false≢true (sym h))
-untraced_weight Spend h = absurd (false≢true (sym h))
-untraced_weight e h = refl
 
 -- ---- traces
 

@@ -5,11 +5,10 @@ ghost use Rattle.values_undef.specs.declared.journal.Entry.{Entry};
 ghost use Rattle.values_undef.specs.Matching.{without_place};
 ghost use Rattle.thread_core.specs.Programs.{IsProperProgram};
 ghost use Rattle.view_machine.specs.State.{IsStep, IsSpendable, after_spend, initial_state};
-ghost use Rattle.view_machine.specs.Runs.{IsJournalRun, is_spend};
+ghost use Rattle.view_machine.specs.Runs.{IsJournalRun};
 ghost use Rattle.view_machine.specs.Held.{state_in, IsOf, HasRoom};
 ghost use Rattle.refinement.specs.Refinement.{Refines};
 ghost use Rattle.refinement.specs.Books.{recorded};
-ghost use Rattle.message_memory.specs.EventLaws.{is_read};
 ghost use Rattle.refinement.specs.Playing.{IsPlayable, at_load, is_plain_load};
 ghost use Rattle.il_syntax.specs.Statements.{head_of};
 ghost use Rattle.values_undef.specs.Access.{ends_thread};
@@ -186,7 +185,7 @@ impl<M: MessageMemory> Playing<M> {
         ensures goes { IfOk result (λ failed. failed ≡ false) }
         ensures ready { OnOk result (IsReady p.now news (done.now ++ entry.now ∷ []) rest.now (played self.new.machine self.new.silent.items self.new.entries.items)) }
     {
-        if is_spend(&entry.event) {
+        if entry.event.is_spend() {
             self.spend(p, entry.thread)?;
             return Ok(false);
         }
@@ -214,7 +213,7 @@ impl<M: MessageMemory> Playing<M> {
         if entry.event.ends_thread() {
             return self.end(p, done, entry, rest, news);
         }
-        if is_read(&entry.event) && !self.at_load(p, entry.thread) {
+        if entry.event.is_read() && !self.at_load(p, entry.thread) {
             return Ok(false);
         }
         self.access(p, done, entry, rest, news)
@@ -296,20 +295,6 @@ pub fn play<M: MessageMemory>(
     Ok(Journal {
         entries: playing.entries,
     })
-}
-
-/// Whether the event ends a thread whose budget is used up.
-fn is_spend(event: &Event) -> bool
-    ensures { result ≡ is_spend event.now }
-{
-    matches!(event, Event::Spend)
-}
-
-/// Whether the event reads a non-atomic location.
-fn is_read(event: &Event) -> bool
-    ensures { result ≡ is_read event.now }
-{
-    matches!(event, Event::NaRead { .. })
 }
 
 /// Whether the statement is a non-atomic load.

@@ -1,5 +1,5 @@
 -- Which reasons hold of an entry.
-use Rattle.std.proofs.Common.{◌≡◌, ◌≢◌, ℕ, zero, suc, ◌<◌, ◌≤◌, ◌⊎◌, inl, inr, Bool, true, false, length, refl, sym, ap, subst, ◌∙◌, arith}
+use Rattle.std.proofs.Common.{◌≡◌, ◌≢◌, ℕ, zero, suc, ◌<◌, ◌≤◌, ◌⊎◌, inl, inr, Bool, true, false, length, Some, None, refl, sym, ap, subst, ◌∙◌, arith}
 use Rattle.std.proofs.lemmas.Bool.{false≢true, true≢false}
 use Rattle.values_undef.specs.Access.{choice_of_event}
 use Rattle.values_undef.specs.declared.access.Event.{Event}
@@ -11,6 +11,9 @@ use Rattle.values_undef.specs.declared.journal.Entry.{Entry}
 use Rattle.il_syntax.specs.declared.program.Program.{Program}
 use Rattle.thread_core.specs.declared.next.Next.{Next}
 use Rattle.thread_core.specs.declared.next.Next.TheVariants as next
+use Rattle.thread_core.specs.Programs.{IsProperNext}
+use Rattle.thread_core.specs.Alone.{within}
+use Rattle.thread_core.proofs.Callers.{within_none, within_finish}
 use Rattle.view_machine.specs.declared.stepped.Stepped.TheVariants as stepped
 use Rattle.view_machine.specs.State.{State, has_ended, next_in, view_in, IsRunning, IsStep, step_by, after_step, IsSpendable}
 use Rattle.std.specs.Prelude.{IsTrue, ◌↔◌}
@@ -210,29 +213,13 @@ pub at_access : (n : Next) → (n ≡ next.Silent → ⊥) → IsAtAccess n
 at_access next.Silent h = absurd (h refl)
 at_access (next.Access a) h = tt
 
-at_end_or_not : (n : Next) → (n ≡ next.Access access.Finish) ⊎ (n ≡ next.Access access.Finish → ⊥)
-at_end_or_not next.Silent = inr (λ (e : next.Silent ≡ next.Access access.Finish). cc)
-at_end_or_not (next.Access access.Finish) = inl refl
-at_end_or_not (next.Access (access.NaRead x)) = inr (λ (e : next.Access (access.NaRead x) ≡ next.Access access.Finish). cc)
-at_end_or_not (next.Access (access.NaWrite x v)) = inr (λ (e : next.Access (access.NaWrite x v) ≡ next.Access access.Finish). cc)
-at_end_or_not (next.Access (access.Read y o)) = inr (λ (e : next.Access (access.Read y o) ≡ next.Access access.Finish). cc)
-at_end_or_not (next.Access (access.Write y o v)) = inr (λ (e : next.Access (access.Write y o v) ≡ next.Access access.Finish). cc)
-at_end_or_not (next.Access (access.Update y o k)) = inr (λ (e : next.Access (access.Update y o k) ≡ next.Access access.Finish). cc)
-at_end_or_not (next.Access (access.Fence order)) = inr (λ (e : next.Access (access.Fence order) ≡ next.Access access.Finish). cc)
-at_end_or_not (next.Access (access.Print v)) = inr (λ (e : next.Access (access.Print v) ≡ next.Access access.Finish). cc)
-at_end_or_not (next.Access (access.Fail cause)) = inr (λ (e : next.Access (access.Fail cause) ≡ next.Access access.Finish). cc)
-at_end_or_not (next.Access access.Spend) = inr (λ (e : next.Access access.Spend ≡ next.Access access.Finish). cc)
+-- a thread that has used up its budget, and still has an access to make, is at its end
+pub spend_refused : (p : Program) (s : State) (entry : Entry) (n : Next) (a : Access) → n ≡ next_in s entry.thread → IsProperNext p n → is_spend entry.event ≡ true → within true n ≡ Some a → IsReasonOfEvent p s entry (why.Silent entry.silent)
+spend_refused p s entry n a comes proper e asks = spends_at_the_end p s entry (sym comes ∙ within_finish p n a proper asks) e
 
--- a thread that runs and cannot spend its budget is at its end
-pub unspendable : (s : State) (i : ℕ) → IsRunning s i → (IsSpendable s i → ⊥) → next_in s i ≡ next.Access access.Finish
-unspendable s i r h =
-    elim (at_end_or_not (next_in s i)) as (λ _. next_in s i ≡ next.Access access.Finish) [
-      | inl e ↦ e
-      | inr e ↦ absurd (h (record { able = r; unfinished = e }))
-    ]
-
-pub spend_refused : (p : Program) (s : State) (entry : Entry) → IsRunning s entry.thread → is_spend entry.event ≡ true → (IsSpendable s entry.thread → ⊥) → IsReasonOfEvent p s entry (why.Silent entry.silent)
-spend_refused p s entry r e h = spends_at_the_end p s entry (unspendable s entry.thread r h) e
+-- one that has no access to make may end
+pub spend_made : (p : Program) (s : State) (entry : Entry) (n : Next) → n ≡ next_in s entry.thread → IsRunning s entry.thread → within true n ≡ None → IsSpendable s entry.thread
+spend_made p s entry n comes r none = record { able = r; unfinished = λ f. (within_none true n (λ _. refl) none).1 (comes ∙ f) }
 
 -- the step of the machine has the event of the entry
 pub makes_event : (p : Program) (s : State) (i : ℕ) (e : Event) → is_spend e ≡ false → IsStep s i (choice_of_event e) → (after_step p s i (choice_of_event e)).done ≡ stepped.Did e → MakesEvent p s i e

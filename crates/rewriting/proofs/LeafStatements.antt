@@ -5,7 +5,7 @@ use Rattle.il_syntax.specs.declared.statement.Stmt.{Stmt}
 use Rattle.il_syntax.specs.declared.statement.Stmt as made
 use Rattle.il_syntax.specs.declared.statement.Block.{Block}
 use Rattle.il_paths.specs.Tree.{Leaf, leaf_statement, Tree, Empty, Then, before_rest, statements_of_tree, block_of}
-use Rattle.il_paths.proofs.Callers.{Shape, plain_shape, if_shape, while_shape, shape_of, tree_of-block, block_of-tree_of, tree_of-block_of}
+use Rattle.il_paths.proofs.Callers.{Shape, plain_shape, if_shape, while_shape, shape_of, tree_of-block, block_of-tree_of, tree_of-block_of, before_rest-leaf}
 
 -- what a statement alone puts tells the statement
 alone : (s : Stmt) → statements_of_tree (before_rest s Empty) ≡ s ∷ []
@@ -15,12 +15,6 @@ alone s =
 
 first_is : {s t : Stmt} → s ∷ [] ≡ t ∷ [] → s ≡ t
 first_is {s} {t} e = cc
-
--- a leaf's statement puts the leaf
-pub leaf_puts : (leaf : Leaf) (rest : Tree) → before_rest (leaf_statement leaf) rest ≡ Then leaf rest
-leaf_puts leaf rest =
-    ap (before_rest (leaf_statement leaf)) (sym (tree_of-block_of rest) ∙ tree_of-block (block_of rest)) ∙
-    sym (tree_of-block (block_of (Then leaf rest))) ∙ tree_of-block_of (Then leaf rest)
 
 -- a statement without blocks is that of a leaf
 pub leaf_of : (s : Stmt) → ((a : Atom) (yes_block no_block : Block) → s ≡ made.If a yes_block no_block → ⊥) → ((a : Atom) (body : Block) → s ≡ made.While a body → ⊥) → (leaf : Leaf) × (s ≡ leaf_statement leaf)

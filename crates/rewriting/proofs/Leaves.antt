@@ -5,7 +5,7 @@ use Rattle.il_syntax.specs.Statements.{Head}
 use Rattle.il_syntax.proofs.Callers.{slice_get-left, slice_get-right}
 use Rattle.il_syntax.specs.declared.statement.Stmt.TheOpen.{If, While}
 use Rattle.il_paths.specs.Tree.{Leaf, head_of_leaf, Tree, Empty, Then, IfThen, WhileThen, heads_in, sites_of}
-use Rattle.il_paths.proofs.HeadsInOrder.{length-heads_in}
+use Rattle.il_paths.proofs.Callers.{length-heads_in}
 use Rattle.rewriting.specs.Changed.{changed_tree}
 use Rattle.rewriting.specs.Laws.{AtEachSite}
 

@@ -1,7 +1,9 @@
-pub mod Leaves
-pub mod Depths
-pub mod Changes
-pub mod Puts
-pub mod Places
-pub mod LeafStatements
+mod HeadLaws
+mod EachKind
+mod Leaves
+mod Depths
+mod Changes
+mod Puts
+mod Places
+mod LeafStatements
 pub mod Callers

@@ -4,8 +4,7 @@ ghost use Rattle.il_syntax.specs.Statements.{site_count};
 ghost use Rattle.il_paths.specs.Tree.{Leaf, leaf_statement, Tree, Empty, tree_of, before_rest, sites_of};
 ghost use Rattle.rewriting.specs.Changed.{changed_tree, IsChanged};
 
-use crate::names::{copy_name, copy_names};
-use il_syntax::{Block, Function, Stmt, copy_statement};
+use il_syntax::{Block, Function, Stmt, copy_name, copy_names, copy_statement};
 use sqlite_items::Items;
 use std::alloc::Global;
 use values_undef::NoMemory;

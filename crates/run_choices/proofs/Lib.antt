@@ -1,2 +1,3 @@
-pub mod Appending
+mod Appending
+mod Ends
 pub mod Callers

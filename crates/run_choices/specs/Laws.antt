@@ -1,8 +1,10 @@
--- What one more entry adds to a journal.
-use Rattle.std.specs.Prelude.{◌≡◌, ℕ, ◌+◌, ◌==◌, ◌&&◌, ◌||◌, if◌then◌else◌, List, [], ◌∷◌, ◌++◌}
+-- What one more entry adds to a journal, and how the threads of a run end.
+use Rattle.std.specs.Prelude.{◌≡◌, ℕ, ◌+◌, ◌<◌, true, false, ◌==◌, ◌&&◌, ◌||◌, if◌then◌else◌, List, [], ◌∷◌, ◌++◌, length}
 use Rattle.values_undef.specs.Access.{is_failure, ends_thread, is_spend}
-use Rattle.values_undef.specs.Journal.{last_fails, used_steps, entry_steps}
+use Rattle.values_undef.specs.Journal.{last_fails, has_finished, used_steps, entry_steps}
 use Rattle.values_undef.specs.declared.journal.Entry.{Entry}
+use Rattle.il_syntax.specs.declared.program.Program.{Program}
+use Rattle.view_machine.specs.Runs.{IsJournalRun}
 use Rattle.run_choices.specs.Complete.{has_ended, has_spent}
 
 -- its thread uses its steps
@@ -20,3 +22,11 @@ SpentBudgetsAreNoted = (entries : List Entry) (e : Entry) (i : ℕ) → has_spen
 -- the journal ends in a failure where it is one
 abbrev pub LastEntriesFail : Type 0
 LastEntriesFail = (entries : List Entry) (e : Entry) → last_fails (entries ++ e ∷ []) ≡ is_failure e.event
+
+-- a thread of a run that came to its end was not stopped at the end of its budget
+abbrev pub FinishedThreadsAreUnspent : Type 0
+FinishedThreadsAreUnspent = (p : Program) (entries : List Entry) (i : ℕ) → IsJournalRun p entries → has_finished entries i ≡ true → has_spent entries i ≡ false
+
+-- a run in which each thread came to its end does not fail
+abbrev pub FinishedRunsDoNotFail : Type 0
+FinishedRunsDoNotFail = (p : Program) (entries : List Entry) → IsJournalRun p entries → ((i : ℕ) → i < length p.threads → has_finished entries i ≡ true) → last_fails entries ≡ false

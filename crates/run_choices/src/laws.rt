@@ -1,5 +1,5 @@
 //! Laws over the definitions, each the contract of a function that does nothing.
-ghost use Rattle.run_choices.specs.Laws.{UsedStepsGrow, EndsAreNoted, SpentBudgetsAreNoted, LastEntriesFail};
+ghost use Rattle.run_choices.specs.Laws.{UsedStepsGrow, EndsAreNoted, SpentBudgetsAreNoted, LastEntriesFail, FinishedThreadsAreUnspent, FinishedRunsDoNotFail};
 
 /// What one more entry adds to the steps that a thread has used, to who has ended and for a spent budget,
 /// and that a journal ends in a failure exactly where its last entry is one.
@@ -9,4 +9,12 @@ pub fn journals_grow()
     ensures ended { EndsAreNoted }
     ensures spent { SpentBudgetsAreNoted }
     ensures fails { LastEntriesFail }
+{}
+
+/// Of a run a thread that came to its end was not stopped at the end of its budget, and where each thread came to
+/// its end none failed: so the ending of a run tells which of these it is.
+#[tactic(auto, using(crate::proofs::Ends::finished_unspent, crate::proofs::Ends::finished_unfailed))]
+pub fn ends_are_told()
+    ensures unspent { FinishedThreadsAreUnspent }
+    ensures unfailed { FinishedRunsDoNotFail }
 {}

@@ -2,7 +2,7 @@
 use Rattle.std.proofs.Common.{◌≡◌, ℕ, zero, suc, ◌+◌, ◌-◌, ◌<◌, ◌≤◌, Bool, true, false, cond, ◌&&◌, leb, List, [], ◌∷◌, ◌++◌, length, take, drop, get_or, refl, sym, ap, ◌∙◌, subst, arith}
 use Rattle.std.proofs.Math.Seq.{take-add, drop-cons}
 use Rattle.std.proofs.lemmas.List.{take-append-drop, length-take-le, take_all}
-use Rattle.std.proofs.lemmas.Bool.{false≢true, le-leb, leb-true, and_parts}
+use Rattle.std.proofs.lemmas.Bool.{false≢true, le-leb, leb-true, and_parts, and_from}
 use Rattle.il_syntax.specs.declared.program.Program.{Program}
 use Rattle.seq_semantics.specs.declared.seen.Seen.{Seen}
 use Rattle.seq_semantics.specs.Seq.{Seq, head_in, step_seen, after_seq_step}
@@ -23,10 +23,6 @@ none_plus n = omega arith
 
 one_more : (at n : ℕ) → at + 1 + n ≡ at + suc n
 one_more at n = omega arith
-
-both : (a b : Bool) → a ≡ true → b ≡ true → (a && b) ≡ true
-both true b d e = e
-both false b d e = absurd (false≢true d)
 
 module _ (p q : Program) (f : ℕ) where
   more_by : (at : ℕ) (s s' : Pair) (e : EnvEvent) (xs ys : List EnvEvent) (b : Bool) → (run_from p q f (at + 1) (pair_after p q f s e) xs ≡ Came s' → run_from p q f (at + 1) (pair_after p q f s e) (xs ++ ys) ≡ run_from p q f (at + 1 + length xs) s' ys)
@@ -75,7 +71,7 @@ module _ (p q : Program) (f : ℕ) where
   may_run : (inside : Bool) (n k : ℕ) → k < n → (inside && (leb 1 n && leb n 16384)) ≡ true → (inside && (leb 1 (suc k) && leb (suc k) 16384)) ≡ true
   may_run true n k b l =
       let few = leb-true n 16384 (and_parts (leb 1 n) (leb n 16384) l).1 in
-      both (leb 1 (suc k)) (leb (suc k) 16384) (le-leb 1 (suc k) (omega arith)) (le-leb (suc k) 16384 (omega (arith, b, few)))
+      and_from (leb 1 (suc k)) (leb (suc k) 16384) (le-leb 1 (suc k) (omega arith)) (le-leb (suc k) 16384 (omega (arith, b, few)))
   may_run false n k b l = absurd (false≢true l)
 
   -- before a lawful `run` the pair is in step after each of its steps

@@ -4,6 +4,7 @@ use Rattle.std.specs.List.{AllByRecursion}
 use Rattle.std.proofs.lemmas.Bool.{false≢true, cases_eq, cases_lt, and_parts, lt-leb}
 use Rattle.std.proofs.lemmas.Bool.Decides.{Decides-int_eq}
 use Rattle.std.proofs.lemmas.List.{length-set, length-map, set_past}
+use Rattle.values_undef.proofs.Callers.{all_append}
 use Rattle.values_undef.specs.declared.value.Val.{Val}
 use Rattle.values_undef.specs.declared.value.Val.TheVariants.{Def, Undef}
 use Rattle.values_undef.specs.Value.{IsBelow}
@@ -22,9 +23,7 @@ use Rattle.paired_threads.specs.Values.{ValuesBelow}
 use Rattle.paired_threads.specs.Functions.{PairedFunction, old_registers}
 use Rattle.paired_threads.specs.Facts.{heard, owed, FactsHold}
 use Rattle.paired_threads.specs.Next.{one_more, pending, PairedNext, both_end, inserts, turns, removes, same}
-use Rattle.paired_threads.proofs.GoOn.{pairs_go_on}
-use Rattle.paired_threads.proofs.FactLaws.{facts_begin}
-use Rattle.paired_threads.proofs.Calls.{calls_begin_paired}
+use Rattle.paired_threads.proofs.Callers.{pairs_go_on, facts_begin, calls_begin_paired}
 use Rattle.seq_semantics.specs.declared.place.Perm.{Perm}
 use Rattle.seq_semantics.specs.declared.place.Perm.TheVariants.{Bare, Shared, Owned}
 use Rattle.seq_semantics.specs.declared.place.Place.{Place}
@@ -42,10 +41,6 @@ use Rattle.seq_pair.proofs.Places.{there, set_here, set_there, lower_paired, wri
 use Rattle.seq_pair.proofs.Steps.{Outcome, out_failed, out_ended, out_on, insert_on, step_on}
 use Rattle.seq_pair.proofs.Values.{value_on}
 use Rattle.seq_pair.proofs.Fences.{pass_on}
-
-all_append : {X : Type 0} (P : X → Type 0) (xs ys : List X) → AllByRecursion P xs → AllByRecursion P ys → AllByRecursion P (xs ++ ys)
-all_append P [] ys h k = k
-all_append P (x ∷ xs) ys h k = (h.0, all_append P xs ys h.1 k)
 
 owed_call : (o : Option Head) (l : Level) → at_call o ≡ true → owed o l ≡ Nothing
 owed_call None l e = absurd (false≢true e)

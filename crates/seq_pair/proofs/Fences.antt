@@ -7,7 +7,7 @@ use Rattle.il_syntax.specs.Statements.{Head}
 use Rattle.il_paths.specs.Code.{Visit}
 use Rattle.paired_threads.specs.Functions.{PairedFunction}
 use Rattle.paired_threads.specs.Next.{SameNext, both_silent, source_fails, loads, stores, loads_atomic, stores_atomic, updates, fences, prints, calls, PairedNext, both_end, inserts, turns, removes, same}
-use Rattle.paired_threads.proofs.GoOn.{pairs_go_on}
+use Rattle.paired_threads.proofs.Callers.{pairs_go_on}
 use Rattle.seq_semantics.specs.declared.seen.Seen.{Seen}
 use Rattle.seq_semantics.specs.declared.seen.Seen.TheVariants as seen
 use Rattle.seq_semantics.specs.declared.seen.Wants.TheVariants as want

@@ -1,6 +1,6 @@
 -- Where others may be heard.
 use Rattle.std.proofs.Common.{◌≡◌, ◌⊎◌, ℕ, Bool, true, false, ◌&&◌, ◌||◌, Option, Some, None, IsSomeAnd, refl, subst, inl, inr}
-use Rattle.std.proofs.lemmas.Bool.{false≢true, and_parts}
+use Rattle.std.proofs.lemmas.Bool.{false≢true, and_parts, or_cases}
 use Rattle.il_syntax.specs.declared.program.Program.{Program}
 use Rattle.il_syntax.specs.Statements.{Head}
 use Rattle.il_paths.specs.Heads.{is_acquire, is_call}
@@ -11,13 +11,9 @@ use Rattle.seq_pair.specs.Pair.{Pair, Stage, AtEntry, Inside, Over, is_at_entry,
 use Rattle.seq_pair.specs.Laws.{IsInStep}
 use Rattle.seq_pair.specs.Pairing.{pair_in, IsPairOf}
 
-either : (a b : Bool) → (a || b) ≡ true → (a ≡ true) ⊎ (b ≡ true)
-either true b e = inl refl
-either false b e = inr e
-
 heard : (o : Option Head) → hears o ≡ true → IsSomeAnd o (λ head. (is_call head ≡ true) ⊎ (is_acquire head ≡ true))
 heard None e = absurd (false≢true e)
-heard (Some head) e = either (is_call head) (is_acquire head) e
+heard (Some head) e = or_cases (is_call head) (is_acquire head) e
 
 abbrev hears_at : Stage → Bool → Bool → Bool
 hears_at stage w b = is_at_entry stage || (is_inside stage && (w && b))

@@ -1,12 +1,13 @@
-pub mod Places
-pub mod Steps
-pub mod Values
-pub mod Fences
-pub mod Events
-pub mod Told
-pub mod Examples
-pub mod Along
-pub mod Pairs
-pub mod Lists
-pub mod Heard
-pub mod Entry
+mod Places
+mod Steps
+mod Values
+mod Fences
+mod Events
+mod Told
+mod Examples
+mod Along
+mod Pairs
+mod Lists
+mod Heard
+mod Entry
+pub mod Callers

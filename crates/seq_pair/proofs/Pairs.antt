@@ -4,8 +4,7 @@ use Rattle.il_syntax.specs.declared.program.Function.{Function}
 use Rattle.il_syntax.specs.declared.program.Location.{Location}
 use Rattle.il_syntax.specs.declared.program.Program.{Program}
 use Rattle.thread_core.specs.Programs.{function_at}
-use Rattle.thread_core.proofs.Placing.{function_proper}
-use Rattle.thread_core.proofs.Callers.{well_formed_proper}
+use Rattle.thread_core.proofs.Callers.{well_formed_proper, function_proper}
 use Rattle.validator.proofs.Callers.{accepted}
 use Rattle.seq_pair.specs.declared.event.EnvEvent.{EnvEvent}
 use Rattle.seq_pair.specs.declared.trace.PairFault.{PairFault}

@@ -28,10 +28,7 @@ use Rattle.paired_threads.specs.Functions.{PairedFunction, old_registers}
 use Rattle.paired_threads.specs.Frames.{FramesPaired}
 use Rattle.paired_threads.specs.Facts.{heard, owed, FactsHold, FactsStay}
 use Rattle.paired_threads.specs.Next.{one_more, pending, PendingStays, PendingStaysBut, GivesPaired, SameNext, both_silent, source_fails, loads, stores, loads_atomic, stores_atomic, updates, fences, prints, calls, PairedNext, both_end, inserts, turns, removes, same}
-use Rattle.paired_threads.proofs.Below.{set_same, set_other, below_at}
-use Rattle.paired_threads.proofs.GoOn.{pairs_go_on}
-use Rattle.paired_threads.proofs.FactLaws.{facts_go}
-use Rattle.paired_threads.proofs.Calls.{results_are_below}
+use Rattle.paired_threads.proofs.Callers.{set_same, set_other, below_at, pairs_go_on, facts_go, results_are_below}
 use Rattle.seq_semantics.specs.declared.place.Perm.TheVariants.{Bare, Owned}
 use Rattle.seq_semantics.specs.declared.place.Place.{Place}
 use Rattle.seq_semantics.specs.declared.place.Course.{Course}

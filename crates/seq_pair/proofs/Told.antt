@@ -23,7 +23,7 @@ use Rattle.validator.proofs.Callers.{accepted}
 use Rattle.thread_core.specs.Frames.{evaluated, evaluated_kind, next_at}
 use Rattle.paired_threads.specs.Functions.{PairedFunction, old_registers}
 use Rattle.paired_threads.specs.Next.{pending, Settled, SameNext, both_silent, source_fails, loads, stores, loads_atomic, stores_atomic, updates, fences, prints, calls, PairedNext, both_end, inserts, turns, removes, same}
-use Rattle.paired_threads.proofs.GoOn.{pairs_go_on}
+use Rattle.paired_threads.proofs.Callers.{pairs_go_on}
 use Rattle.seq_semantics.specs.declared.place.Perm.{Perm}
 use Rattle.seq_semantics.specs.declared.place.Perm.TheVariants.{Bare, Shared, Owned}
 use Rattle.seq_semantics.specs.declared.place.Place.{Place}

@@ -23,7 +23,7 @@ use Rattle.thread_core.specs.Frames.{evaluated_kind, gave, next_at}
 use Rattle.paired_threads.specs.Functions.{PairedFunction}
 use Rattle.paired_threads.specs.Facts.{owed, FactsHold, FactsStay}
 use Rattle.paired_threads.specs.Next.{one_more, PendingStays, GivesPaired, SameNext, both_silent, source_fails, loads, stores, loads_atomic, stores_atomic, updates, fences, prints, calls, PairedNext, both_end, inserts, turns, removes, same}
-use Rattle.paired_threads.proofs.GoOn.{pairs_go_on}
+use Rattle.paired_threads.proofs.Callers.{pairs_go_on}
 use Rattle.seq_semantics.specs.declared.place.Course.TheVariants.{HasFailed}
 use Rattle.seq_semantics.specs.declared.seen.Seen.{Seen}
 use Rattle.seq_semantics.specs.declared.seen.Seen.TheVariants as seen

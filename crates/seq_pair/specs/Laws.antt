@@ -57,8 +57,8 @@ pub record StaysRelated (s : Pair) : Type 0 where
 abbrev pub PairsStayRelated : Type 0
 PairsStayRelated = (p q : Program) (f : ℕ) (events : List EnvEvent) (s : Pair) → IsAcceptedPair p q f → pair_run p q f events ≡ Came s → StaysRelated s
 
--- in the function the source waits for what the target waits for, but at an inserted load; and both come to calls
--- together
+-- in the function the source waits for what the target waits for, but at an inserted load; and where the target is at a
+-- call, or may hear others, so is the source
 pub record IsInStep (old : ℕ) (s : Pair) : Type 0 where
   pub runs : s.stage ≡ Inside → s.target.course ≡ Running
   pub steps : s.stage ≡ Inside → wants_of s.target ≡ want.Step → at_new_load old (head_in s.target) ≡ false → wants_of s.source ≡ want.Step

@@ -4,7 +4,7 @@ use values_undef::Val;
 /// An event of the environment of a pair, or a leave that it gives to target and source to go on. Values of
 /// the target come before those of the source, and have to be below them. Which events are lawful where is
 /// `is_lawful` in `specs/Pair.antt`.
-#[derive(Clone, Copy, Debug, PartialEq, Eq)]
+#[derive(Clone, Copy)]
 pub enum EnvEvent {
     /// The function begins, with the values that its parameters were given.
     Enter,

@@ -4,7 +4,7 @@ use values_undef::Vals;
 
 /// Where a pair is: before `enter`, with the values of the parameters that were given so far; in the
 /// function; at its end.
-#[derive(Debug, Drop)]
+#[derive(Drop)]
 pub enum Stage {
     AtEntry { targets: Vals, sources: Vals },
     Inside,

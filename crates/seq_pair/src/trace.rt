@@ -8,7 +8,7 @@ use std::marker::Model;
 use values_undef::NoMemory;
 
 /// What target and source are seen to do in one step. At least one of the two is seen by others.
-#[derive(Debug, Drop)]
+#[derive(Drop)]
 pub struct PairLabel {
     /// What the target is seen to do.
     pub target: Seen,
@@ -52,7 +52,7 @@ impl PairLabels {
 }
 
 /// How a pair of runs ends.
-#[derive(Clone, Copy, Debug, PartialEq, Eq)]
+#[derive(Clone, Copy)]
 pub enum PairEnd {
     /// Both are at the end of the function.
     Same,
@@ -72,7 +72,7 @@ pub struct PairTrace {
 }
 
 /// Why there is no trace.
-#[derive(Clone, Copy, Debug, PartialEq, Eq)]
+#[derive(Clone, Copy)]
 pub enum PairFault {
     /// This event is the first that isn't lawful; the first of all has number 0.
     Event { at: u32 },

@@ -24,7 +24,9 @@ pub record IsSeqOf (p : Program) (s : HeldSeq) : Type 0 where
   pub alone : s.positions.callers ≡ []
   pub places : length s.places ≡ length p.na
 
--- others may be heard: at the function's beginning, an acquire or a call
+-- others may be heard: at the function's beginning, an acquire or a call. (The beginning is where the whole code is still
+-- to do: so at the head of a loop that the function begins with others may be heard again, and where an empty function
+-- has ended. That only widens the condition of a gain.)
 abbrev pub MayHear : Program → Seq → Type 0
 MayHear p s = (s.frame.continuation ≡ code_of p s.frame.function) ⊎ IsSomeAnd (head_in s) (λ head. (is_call head ≡ true) ⊎ (is_acquire head ≡ true))
 

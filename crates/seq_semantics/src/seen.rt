@@ -2,7 +2,7 @@
 use values_undef::{Cause, Order, Val, Vals};
 
 /// What a function waits for.
-#[derive(Clone, Copy, Debug, PartialEq, Eq)]
+#[derive(Clone, Copy)]
 pub enum Wants {
     /// To make a step.
     Step,
@@ -15,7 +15,7 @@ pub enum Wants {
 }
 
 /// What is seen of a step. `y` counts the atomic locations from 0.
-#[derive(Debug, Drop)]
+#[derive(Drop)]
 pub enum Seen {
     /// A step within the function.
     Silent,

@@ -27,12 +27,12 @@ use Rattle.seq_pair.specs.Laws.{IsAcceptedPair}
 use Rattle.seq_pair.specs.Pair.{Pair, Came, Unlawful, pair_run}
 use Rattle.seq_text.specs.declared.fault.SeqRule.{SeqRule}
 use Rattle.seq_text.specs.declared.fault.SeqRule.TheVariants.{E}
-use Rattle.seq_text.specs.declared.fault.SessionFault.{SessionFault}
-use Rattle.seq_text.specs.declared.fault.SessionFault.TheVariants as session_fault
+use Rattle.il_reader.specs.Refusal.{IfRefused, line_refusal}
+use Rattle.il_reader.specs.declared.fault.InputFault.{InputFault}
+use Rattle.il_reader.specs.declared.fault.InputFault.TheVariants as input_fault
 use Rattle.seq_text.specs.Output.{trace_text}
 use Rattle.seq_text.specs.Reading.{ReadsSession, IsFirstSessionRefusal}
-use Rattle.seq_text.specs.Refusals.{IfSessionRefused, line_refusal}
-use Rattle.journal_text.specs.Line.{Text}
+use Rattle.text_parts.specs.Lines.{Text}
 use Rattle.seq_session.specs.declared.answer.SeqAnswer.{SeqAnswer}
 use Rattle.seq_session.specs.declared.answer.SeqAnswer.TheVariants.{Refused, RefusedFunction, Played}
 use Rattle.seq_session.specs.Session.{refused_by, function_number, IsFunctionAnswer, refused_function, unlawful, played, IsNamedAnswer, IsSeqAnswer, unread, read}
@@ -93,7 +93,7 @@ pub read_answered : {X : Type 0} (input name : Text) (p q : Program) (events : L
 read_answered input name p q events line (Ok a) reads h = read p q events line reads h
 read_answered input name p q events line (Err e) reads h = tt
 
-pub refused_answered : (input name : Text) (fault : SessionFault) (rule : SeqRule) (line column : ℕ) → IfSessionRefused fault (λ r. IsFirstSessionRefusal input r) → fault ≡ session_fault.Refused rule line column
+pub refused_answered : (input name : Text) (fault : InputFault SeqRule) (rule : SeqRule) (line column : ℕ) → IfRefused fault (λ r. IsFirstSessionRefusal input r) → fault ≡ input_fault.Refused rule line column
     → IsSeqAnswer input name (Refused rule line column)
 refused_answered input name fault rule line column is refused =
-    unread (record { rule = rule; line = line; column = column }) (subst (λ (e : SessionFault). IfSessionRefused e (λ r. IsFirstSessionRefusal input r)) refused is) refl
+    unread (record { rule = rule; line = line; column = column }) (subst (λ (e : InputFault SeqRule). IfRefused e (λ r. IsFirstSessionRefusal input r)) refused is) refl

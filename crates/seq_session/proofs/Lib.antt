@@ -1,4 +1,5 @@
 mod FirstFaults
 mod OneAnswer
 mod Answered
+mod EachAnswer
 pub mod Callers

@@ -6,7 +6,7 @@ use Rattle.thread_core.specs.Programs.{function_at}
 use Rattle.validator.specs.declared.fault.Fault.{Fault}
 use Rattle.validator.specs.Faults.{Accepts, HasFault, IsFirstFault}
 use Rattle.validator.specs.Shape.{SameShape}
-use Rattle.journal_text.specs.Line.{Text}
+use Rattle.text_parts.specs.Lines.{Text}
 use Rattle.seq_pair.specs.declared.event.EnvEvent.{EnvEvent}
 use Rattle.seq_pair.specs.declared.trace.PairEnd.{PairEnd}
 use Rattle.seq_pair.specs.declared.trace.PairLabel.{PairLabel}
@@ -16,7 +16,7 @@ use Rattle.seq_pair.specs.Pair.{Pair, PairRun, Came, Unlawful, pair_run, pair_en
 use Rattle.seq_text.specs.declared.fault.SeqRule.TheVariants.{E, F}
 use Rattle.seq_text.specs.Output.{trace_text}
 use Rattle.seq_text.specs.Reading.{ReadsSession, IsFirstSessionRefusal}
-use Rattle.seq_text.specs.Refusals.{SeqRefusal, line_refusal}
+use Rattle.il_reader.specs.Refusal.{line_refusal}
 use Rattle.seq_text.proofs.Callers.{one_session, one_session_refusal, session_unrefused}
 use Rattle.seq_session.specs.declared.answer.SeqAnswer.{SeqAnswer}
 use Rattle.seq_session.specs.declared.answer.SeqAnswer.TheVariants.{Refused, OtherShape, RefusedFunction, Played}

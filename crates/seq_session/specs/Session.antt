@@ -8,19 +8,20 @@ use Rattle.thread_core.specs.Programs.{function_at}
 use Rattle.validator.specs.declared.fault.Fault.{Fault}
 use Rattle.validator.specs.Faults.{IsFirstFault}
 use Rattle.validator.specs.Shape.{SameShape}
-use Rattle.journal_text.specs.Line.{Text}
+use Rattle.text_parts.specs.Lines.{Text}
 use Rattle.seq_pair.specs.declared.event.EnvEvent.{EnvEvent}
 use Rattle.seq_pair.specs.declared.trace.PairTrace.{PairTrace}
 use Rattle.seq_pair.specs.Answers.{IsTraceOf, IsUnlawfulAt}
 use Rattle.seq_pair.specs.Laws.{IsAcceptedPair}
+use Rattle.il_reader.specs.Refusal.{Refusal, line_refusal}
+use Rattle.seq_text.specs.declared.fault.SeqRule.{SeqRule}
 use Rattle.seq_text.specs.declared.fault.SeqRule.TheVariants.{E, F}
 use Rattle.seq_text.specs.Output.{trace_text}
 use Rattle.seq_text.specs.Reading.{ReadsSession, IsFirstSessionRefusal}
-use Rattle.seq_text.specs.Refusals.{SeqRefusal, line_refusal}
 use Rattle.seq_session.specs.declared.answer.SeqAnswer.{SeqAnswer}
 use Rattle.seq_session.specs.declared.answer.SeqAnswer.TheVariants.{Refused, OtherShape, RefusedFunction, Played}
 
-abbrev pub refused_by : SeqRefusal → SeqAnswer
+abbrev pub refused_by : Refusal SeqRule → SeqAnswer
 refused_by r = Refused r.rule r.line r.column
 
 -- the number of the function of a name
@@ -56,6 +57,6 @@ IsNamedAnswer p q events line (Some f) a = IsFunctionAnswer p q f events line a
 
 -- and of an input, which may be refused
 pub data IsSeqAnswer (input name : Text) (a : SeqAnswer) : Type 0 where
-  unread : (r : SeqRefusal) → IsFirstSessionRefusal input r → a ≡ refused_by r → IsSeqAnswer input name a
+  unread : (r : Refusal SeqRule) → IsFirstSessionRefusal input r → a ≡ refused_by r → IsSeqAnswer input name a
   read : (p q : Program) (events : List EnvEvent) (line : ℕ) → ReadsSession input p q events line
       → IsNamedAnswer p q events line (function_number p.functions name) a → IsSeqAnswer input name a

@@ -4,7 +4,7 @@ use validator::Fault;
 use values_undef::Bytes;
 
 /// What `seq` answers to an input and the name of a function.
-#[derive(Debug, Drop)]
+#[derive(Drop)]
 pub enum SeqAnswer {
     /// The input breaks this rule, here: lines and columns count from 1.
     Refused {

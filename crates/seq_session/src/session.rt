@@ -8,9 +8,10 @@ ghost use Rattle.seq_session.specs.Session.{function_number, IsFunctionAnswer, I
 
 use crate::answer::SeqAnswer;
 use flow_summary::Summed;
+use il_parser::InputFault;
 use il_syntax::{Function, Program};
 use seq_pair::{PairFault, seq_pair};
-use seq_text::{SeqRule, Session, SessionFault, read_session, write_trace};
+use seq_text::{SeqRule, Session, read_session, write_trace};
 use std::alloc::Global;
 use validator::{Judged, same_shape, validate};
 use values_undef::NoMemory;
@@ -108,9 +109,9 @@ pub fn seq_answer(alloc: Global, input: &[u8], name: &[u8]) -> Result<SeqAnswer,
 {
     match read_session(alloc, input) {
         Ok(session) => named(alloc, &session, name),
-        Err(SessionFault::Refused { rule, line, column }) => {
+        Err(InputFault::Refused { rule, line, column }) => {
             Ok(SeqAnswer::Refused { rule, line, column })
         }
-        Err(SessionFault::NoMemory) => Err(NoMemory),
+        Err(InputFault::NoMemory) => Err(NoMemory),
     }
 }

@@ -1,50 +1,45 @@
 -- The answers of the code are those of the input.
 use Rattle.std.proofs.Common.{◌≡◌, ◌+◌, ◌≤◌, ℕ, sym, subst, ap, refl, List, [], ◌∷◌, length, Err, codes, arith}
 use Rattle.std.proofs.lemmas.List.{length-append}
+use Rattle.text_parts.specs.Lines.{Text, whole_line}
+use Rattle.text_parts.specs.Division.{LacksLine, DividesAtLine}
 use Rattle.il_syntax.specs.declared.program.Program.{Program}
-use Rattle.il_reader.specs.Refusal.{IfRefused}
-use Rattle.il_reader.specs.declared.fault.ParseFault.{ParseFault}
-use Rattle.il_reader.specs.declared.fault.ParseFault.TheVariants as parse_faults
-use Rattle.journal_text.specs.Line.{Text}
-use Rattle.journal_text.specs.Report.{whole_line}
-use Rattle.pair_text.specs.Division.{LacksLine, DividesAtLine}
+use Rattle.il_grammar.specs.declared.rule.Rule.{Rule}
+use Rattle.il_reader.specs.Refusal.{Refusal, IfRefused, fault_map, line_refusal, refused, ruled}
+use Rattle.il_reader.specs.declared.fault.InputFault.{InputFault}
+use Rattle.il_reader.specs.declared.fault.InputFault.TheVariants.{Refused, NoMemory}
 use Rattle.pair_text.specs.Refusals.{target_word}
 use Rattle.pair_text.specs.Reading.{SpellTexts, IsFirstOfTexts}
 use Rattle.seq_pair.specs.declared.event.EnvEvent.{EnvEvent}
-use Rattle.seq_text.specs.declared.fault.SeqRule.TheVariants.{T, E}
-use Rattle.seq_text.specs.declared.fault.SessionFault.{SessionFault}
+use Rattle.seq_text.specs.declared.fault.SeqRule.{SeqRule}
+use Rattle.seq_text.specs.declared.fault.SeqRule.TheVariants.{T, E, Grammar}
 use Rattle.seq_text.specs.Event.{env_event_line}
 use Rattle.seq_text.specs.Events.{env_event_lines, HasEnvEvents, ReadsEnvEvents, finished, unfinished, AreEventsRefusedAfter}
-use Rattle.seq_text.specs.Refusals.{SeqRefusal, events_word, line_refusal, event_line_number, seq_refused, session_fault}
-use Rattle.seq_text.specs.Reading.{DividesSession, no_target, events_before, no_events, IsFirstSessionRefusal, undivided, of_programs, of_events, IsSessionAnswer}
+use Rattle.seq_text.specs.Refusals.{events_word, event_line_number}
+use Rattle.seq_text.specs.Reading.{DividesSession, no_target, no_events, IsFirstSessionRefusal, undivided, of_programs, of_events, IsSessionAnswer}
 
 -- refusals
 
-module _ (input : Text) (fault : SessionFault) where
-  answered : (r : SeqRefusal) → IsFirstSessionRefusal input r → fault ≡ seq_refused r → IsSessionAnswer input (Err fault)
+module _ (input : Text) (fault : InputFault SeqRule) where
+  answered : (r : Refusal SeqRule) → IsFirstSessionRefusal input r → fault ≡ refused r → IsSessionAnswer input (Err fault)
   answered r first is = subst (λ e. IsSessionAnswer input (Err e)) (sym is) first
 
-  pub untargeted : LacksLine target_word input → fault ≡ seq_refused (line_refusal T 1) → IsSessionAnswer input (Err fault)
+  pub untargeted : LacksLine target_word input → fault ≡ refused (line_refusal T 1) → IsSessionAnswer input (Err fault)
   untargeted none is = answered (line_refusal T 1) (undivided (no_target none refl)) is
 
-  pub early_events : (source rest before after : Text) → DividesAtLine target_word input source rest → LacksLine events_word rest
-      → DividesAtLine events_word source before after → fault ≡ seq_refused (line_refusal T 1) → IsSessionAnswer input (Err fault)
-  early_events source rest before after at none early is = answered (line_refusal T 1) (undivided (events_before source rest before after at none early refl)) is
-
-  pub eventless : (source rest : Text) → DividesAtLine target_word input source rest → LacksLine events_word rest
-      → LacksLine events_word source → fault ≡ seq_refused (line_refusal E 1) → IsSessionAnswer input (Err fault)
-  eventless source rest at none early is = answered (line_refusal E 1) (undivided (no_events source rest at none early refl)) is
+  pub eventless : (source rest : Text) → DividesAtLine target_word input source rest → LacksLine events_word rest → fault ≡ refused (line_refusal E 1) → IsSessionAnswer input (Err fault)
+  eventless source rest at none is = answered (line_refusal E 1) (undivided (no_events source rest at none refl)) is
 
   module _ (a b c : Text) (divided : DividesSession input a b c) where
-    of_parse : (f : ParseFault) → IfRefused f (λ r. IsFirstOfTexts a b r) → IsSessionAnswer input (Err (session_fault f))
-    of_parse (parse_faults.Refused rule line column) h = of_programs a b c (record { rule = rule; line = line; column = column }) divided h refl
-    of_parse parse_faults.NoMemory h = tt
+    of_parse : (f : InputFault Rule) → IfRefused f (λ r. IsFirstOfTexts a b r) → IsSessionAnswer input (Err (fault_map (ruled Grammar) f))
+    of_parse (Refused rule line column) h = of_programs a b c (record { rule = rule; line = line; column = column }) divided h refl
+    of_parse NoMemory h = tt
 
-    pub programs_refused : (f : ParseFault) → IfRefused f (λ r. IsFirstOfTexts a b r) → fault ≡ session_fault f → IsSessionAnswer input (Err fault)
+    pub programs_refused : (f : InputFault Rule) → IfRefused f (λ r. IsFirstOfTexts a b r) → fault ≡ fault_map (ruled Grammar) f → IsSessionAnswer input (Err fault)
     programs_refused f h is = subst (λ e. IsSessionAnswer input (Err e)) (sym is) (of_parse f h)
 
     pub events_refused : (p q : Program) (lines line : ℕ) → SpellTexts a b p q → AreEventsRefusedAfter p c lines → line ≡ event_line_number a b 0 + lines
-        → fault ≡ seq_refused (line_refusal E line) → IsSessionAnswer input (Err fault)
+        → fault ≡ refused (line_refusal E line) → IsSessionAnswer input (Err fault)
     events_refused p q lines line spelled refused at is =
         answered (line_refusal E line) (of_events a b c p q lines divided spelled refused (ap (λ n. line_refusal E n) (omega (arith, at)))) is
 

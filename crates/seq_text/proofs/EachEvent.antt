@@ -1,19 +1,16 @@
 -- Each text is events of a program, or is refused.
-use Rattle.std.proofs.Common.{◌≡◌, ◌≢◌, ◌==◌, Bool, true, false, ◌<◌, ◌≤◌, ◌⊎◌, inl, inr, ℕ, zero, suc, ap, refl, List, [], ◌∷◌, ◌++◌, length, codes, arith}
+use Rattle.std.proofs.Common.{◌≡◌, ◌<◌, ◌≤◌, ◌⊎◌, inl, inr, ℕ, zero, suc, refl, List, [], ◌∷◌, ◌++◌, length, arith}
 use Rattle.std.proofs.lemmas.Bool.{cases_lt}
-use Rattle.std.proofs.lemmas.Bool.Decides.{nat_tests}
-use Rattle.std.proofs.lemmas.List.{length-append}
 use Rattle.values_undef.specs.declared.value.Val.{Val}
 use Rattle.il_syntax.specs.declared.program.Program.{Program}
 use Rattle.journal_text.specs.Limits.{HasPlainNames, IsValue}
-use Rattle.journal_text.specs.Line.{Text}
-use Rattle.journal_text.specs.Reading.{IsLineEnd}
-use Rattle.journal_text.specs.Report.{whole_line}
+use Rattle.text_parts.specs.Lines.{Text, IsLineEnd}
+use Rattle.text_parts.proofs.Callers.{HasLine, after_shorter, next_of}
 use Rattle.journal_text.proofs.Callers.{Decided, at_line_end, begins, or_else, same_fact, some_below, some_value}
 use Rattle.seq_pair.specs.declared.event.EnvEvent.{EnvEvent}
 use Rattle.seq_pair.specs.declared.event.EnvEvent.TheVariants.{Enter, Run, Value, Take, Hide, Gain, See, Pass}
 use Rattle.seq_text.specs.Event.{env_event_line, FitsEnvEvent}
-use Rattle.seq_text.specs.Events.{most_env_events, BeginsWithEnvEvent, ReadsEnvEvents, AreEventsRefusedAfter, IsNextLine}
+use Rattle.seq_text.specs.Events.{most_env_events, BeginsWithEnvEvent, ReadsEnvEvents, AreEventsRefusedAfter}
 use Rattle.seq_text.proofs.EventSteps.{HasTaken, all_taken, line_of, none_taken, one_taken, refused_with, too_many}
 
 -- finitely many events fit a program, so that whether one of them has a property is decided where it is decided of each
@@ -70,58 +67,6 @@ first_event : (p : Program) (text : Text) → Decided (BeginsWithEnvEvent p text
 first_event p text =
     same_fact (some_event p (λ e. (rest : Text) × (text ≡ env_event_line p e ++ rest) × IsLineEnd rest) (λ e. begins (env_event_line p e) text IsLineEnd at_line_end))
     (λ x. record { event = x.0; rest = x.2.0; is = x.2.1; ends = x.2.2; fits = x.1 }) (λ x. (x.event, x.fits, (x.rest, x.is, x.ends)))
-
--- a text that isn't empty has a first line
-
-record HasLine (text : Text) : Type 0 where
-  line : Text
-  after : Text
-  next : IsNextLine text line after
-
-newline_next : (text : Text) (b : ℕ) → b ≡ 10 → HasLine (b ∷ text)
-newline_next text b is = record {
-  line = [];
-  after = text;
-  next = record { clean = refl; goes_on = λ none. absurd cc; is = inl (ap (λ c. c ∷ text) is) };
-}
-
-byte_next : (text : Text) (b : ℕ) → (b == 10) ≡ false → HasLine text ⊎ (text ≡ []) → HasLine (b ∷ text)
-byte_next text b differs (inl h) = record {
-  line = b ∷ h.line;
-  after = h.after;
-  next = record { clean = rw (differs, h.next.clean); goes_on = λ none. absurd cc; is = longer h.next.is };
-}
-  where
-    longer : (text ≡ whole_line h.line ++ h.after) ⊎ ((text ≡ h.line) × (h.after ≡ [])) → (b ∷ text ≡ whole_line (b ∷ h.line) ++ h.after) ⊎ ((b ∷ text ≡ b ∷ h.line) × (h.after ≡ []))
-    longer (inl is) = inl (ap (λ t. b ∷ t) is)
-    longer (inr last) = inr (ap (λ t. b ∷ t) last.0, last.1)
-byte_next text b differs (inr none) = record {
-  line = b ∷ [];
-  after = [];
-  next = record { clean = rw differs; goes_on = λ none. absurd cc; is = inr (ap (λ t. b ∷ t) none, refl) };
-}
-
-next_of : (text : Text) → HasLine text ⊎ (text ≡ [])
-next_of [] = inr refl
-next_of (b ∷ bs) = inl (go (b == 10) refl (next_of bs))
-  where
-    go : (t : Bool) → (b == 10) ≡ t → HasLine bs ⊎ (bs ≡ []) → HasLine (b ∷ bs)
-    go true e more = newline_next bs b (grind (arith, nat_tests))
-    go false e more = byte_next bs b e more
-
-after_shorter : (text line after : Text) → IsNextLine text line after → length after < length text
-after_shorter text line after next = go next.is
-  where
-    some : 1 ≤ length text
-    some = go text next.goes_on
-      where
-        go : (t : Text) → t ≢ [] → 1 ≤ length t
-        go [] none = absurd (none refl)
-        go (b ∷ bs) none = omega arith
-
-    go : (text ≡ whole_line line ++ after) ⊎ ((text ≡ line) × (after ≡ [])) → length after < length text
-    go (inl is) = omega (arith, ap length is, length-append (whole_line line) after, length-append line (codes "\n"))
-    go (inr last) = omega (arith, ap length last.1, some)
 
 module _ (p : Program) (names : HasPlainNames p) (text : Text) where
   abbrev pub HasEventsAnswer : Type 0

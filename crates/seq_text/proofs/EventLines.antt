@@ -4,10 +4,9 @@ use Rattle.std.specs.List.{All}
 use Rattle.std.proofs.lemmas.List.{length-append}
 use Rattle.il_syntax.specs.declared.program.Program.{Program}
 use Rattle.journal_text.specs.Limits.{HasPlainNames}
-use Rattle.journal_text.specs.Line.{Text}
-use Rattle.journal_text.specs.Reading.{IsLineEnd}
-use Rattle.journal_text.specs.Report.{whole_line}
-use Rattle.journal_text.proofs.Callers.{HasOwnNames, same_line}
+use Rattle.text_parts.specs.Lines.{Text, IsLineEnd, whole_line}
+use Rattle.text_parts.proofs.Callers.{same_line}
+use Rattle.journal_text.proofs.Callers.{HasOwnNames}
 use Rattle.seq_pair.specs.declared.event.EnvEvent.{EnvEvent}
 use Rattle.seq_text.specs.Event.{env_event_line, FitsEnvEvent}
 use Rattle.seq_text.specs.Events.{env_event_lines, most_env_events, HasEnvEvents, BeginsWithEnvEvent, ReadsEnvEvents, finished, unfinished, AreEventsRefusedAfter}

@@ -7,12 +7,11 @@ use Rattle.std.proofs.lemmas.List.Elements.{All-append}
 use Rattle.il_syntax.specs.declared.program.Program.{Program}
 use Rattle.journal_text.specs.Kind.{Decodes}
 use Rattle.journal_text.specs.Limits.{HasPlainNames}
-use Rattle.journal_text.specs.Line.{Text}
-use Rattle.journal_text.specs.Report.{whole_line}
-use Rattle.journal_text.proofs.Callers.{same_line}
+use Rattle.text_parts.specs.Lines.{Text, whole_line, IsNextLine}
+use Rattle.text_parts.proofs.Callers.{same_line}
 use Rattle.seq_pair.specs.declared.event.EnvEvent.{EnvEvent}
 use Rattle.seq_text.specs.Event.{env_event_line, FitsEnvEvent}
-use Rattle.seq_text.specs.Events.{env_event_lines, most_env_events, BeginsWithEnvEvent, ReadsEnvEvents, finished, unfinished, AreEventsRefusedAfter, IsNextLine}
+use Rattle.seq_text.specs.Events.{env_event_lines, most_env_events, BeginsWithEnvEvent, ReadsEnvEvents, finished, unfinished, AreEventsRefusedAfter}
 use Rattle.seq_text.proofs.EventWords.{clean_line}
 
 module _ (p : Program) where

@@ -9,8 +9,7 @@ use Rattle.std.proofs.lemmas.Str.{IsUtf8-from_ascii}
 use Rattle.il_syntax.specs.declared.program.Program.{Program}
 use Rattle.journal_text.specs.Kind.{Decodes}
 use Rattle.journal_text.specs.Limits.{HasPlainNames}
-use Rattle.journal_text.specs.Line.{Text}
-use Rattle.journal_text.specs.Reading.{has_no_newline}
+use Rattle.text_parts.specs.Lines.{Text, has_no_newline}
 use Rattle.journal_text.proofs.Callers.{HasOwnNames, all_first, apart, are_visible, decimal_visible, first_all, name_visible, plain_ascii, plain_clean, same_place, same_value, splits, value_visible, words_plain}
 use Rattle.seq_pair.specs.declared.event.EnvEvent.{EnvEvent}
 use Rattle.seq_pair.specs.declared.event.EnvEvent.TheVariants.{Enter, Run, Value, Take, Hide, Gain, See, Pass}

@@ -1,7 +1,7 @@
 -- Lines that are written piece by piece.
 use Rattle.std.proofs.Common.{◌≡◌, ◌∙◌, sym, ap, List, [], ◌∷◌, ◌++◌, Result, Ok, Err, OnOk, append_assoc, append-nil, codes}
 use Rattle.std.specs.List.{flat_map, join_with_byte}
-use Rattle.journal_text.specs.Line.{Text}
+use Rattle.text_parts.specs.Lines.{Text}
 
 -- a blank before each word but the first
 join_from : (w : Text) (ws : List Text) → join_with_byte 32 (w ∷ ws) ≡ w ++ flat_map (λ word. 32 ∷ word) ws

@@ -1,21 +1,18 @@
 -- An input has one answer.
-use Rattle.std.proofs.Common.{◌≡◌, ◌∙◌, ℕ, sym, ap, subst, refl, List, Result, Ok, Err}
-use Rattle.std.specs.Prelude.{MatchResult}
+use Rattle.std.proofs.Common.{◌≡◌, ◌∙◌, ℕ, sym, ap, subst, List}
+use Rattle.text_parts.specs.Lines.{Text}
 use Rattle.il_syntax.specs.declared.program.Program.{Program}
+use Rattle.il_reader.specs.Refusal.{line_refusal, ruled}
 use Rattle.il_parser.proofs.Callers.{spelled_well_formed}
-use Rattle.journal_text.specs.Line.{Text}
 use Rattle.journal_text.proofs.Callers.{own_names, plain_names}
 use Rattle.pair_text.specs.Reading.{SpellTexts, IsFirstOfTexts}
 use Rattle.pair_text.proofs.Callers.{one_texts_refusal, same_texts, texts_unrefused}
 use Rattle.seq_pair.specs.declared.event.EnvEvent.{EnvEvent}
-use Rattle.seq_text.specs.declared.fault.SeqRule.TheVariants.{E}
-use Rattle.seq_text.specs.declared.fault.SessionFault.{SessionFault}
-use Rattle.seq_text.specs.declared.fault.SessionFault.TheVariants as faults
-use Rattle.seq_text.specs.declared.input.Session.{Session}
+use Rattle.seq_text.specs.declared.fault.SeqRule.TheVariants.{E, Grammar}
 use Rattle.seq_text.specs.Events.{ReadsEnvEvents, AreEventsRefusedAfter}
 use Rattle.seq_text.specs.Laws.{SessionsReadInOneWay, SessionsThatReadAreNotRefused, SessionsHaveOneFirstRefusal}
-use Rattle.seq_text.specs.Refusals.{SeqRefusal, IfSessionRefused, line_refusal, program_refusal, event_line_number}
-use Rattle.seq_text.specs.Reading.{DividesSession, ReadsSession, IsFirstSessionRefusal, undivided, of_programs, of_events, IsSessionAnswer}
+use Rattle.seq_text.specs.Refusals.{event_line_number}
+use Rattle.seq_text.specs.Reading.{DividesSession, ReadsSession, IsFirstSessionRefusal, undivided, of_programs, of_events}
 use Rattle.seq_text.proofs.EventLines.{not_refused, one_count, one_reading}
 use Rattle.seq_text.proofs.Parts.{at_parts, lacks_nothing, one_separator}
 
@@ -54,7 +51,7 @@ one_session_refusal input r q (undivided lacks) (of_programs a b c s divided ref
 one_session_refusal input r q (undivided lacks) (of_events a b c p p' lines divided spelled refused is) = absurd (lacks_nothing input a b c r divided lacks)
 one_session_refusal input r q (of_programs a b c s divided refused is) (undivided lacks) = absurd (lacks_nothing input a b c q divided lacks)
 one_session_refusal input r q (of_programs a b c s divided refused is) (of_programs a' b' c' s' divided' refused' is') =
-    is ∙ ap program_refusal (one_texts_refusal a' b' s s' (at_parts input (λ x y z. IsFirstOfTexts x y s) a b c a' b' c' divided divided' refused) refused') ∙ sym is'
+    is ∙ ap (ruled Grammar) (one_texts_refusal a' b' s s' (at_parts input (λ x y z. IsFirstOfTexts x y s) a b c a' b' c' divided divided' refused) refused') ∙ sym is'
 one_session_refusal input r q (of_programs a b c s divided refused is) (of_events a' b' c' p p' lines divided' spelled refused' is') =
     absurd (texts_unrefused a' b' p p' s spelled (at_parts input (λ x y z. IsFirstOfTexts x y s) a b c a' b' c' divided divided' refused))
 one_session_refusal input r q (of_events a b c p p' lines divided spelled refused is) (undivided lacks) = absurd (lacks_nothing input a b c q divided lacks)
@@ -67,15 +64,3 @@ one_session_refusal input r q (of_events a b c p p' lines divided spelled refuse
     let first : r ≡ line_refusal E (event_line_number a' b' lines) =
     at_parts input (λ x y z. r ≡ line_refusal E (event_line_number x y lines)) a b c a' b' c' divided divided' is in
     first ∙ ap (λ n. line_refusal E (event_line_number a' b' n)) (one_count o (plain_names o formed) (own_names o formed) c' lines lines' here refused') ∙ sym is'
-
-pub session_only : (input : Text) (r : Result Session SessionFault) → IsSessionAnswer input r → (p q : Program) (es : List EnvEvent) (l : ℕ) → ReadsSession input p q es l
-    → MatchResult r (λ x. (x.source ≡ p) × (x.target ≡ q) × (x.events.items ≡ es) × (x.first_line ≡ l)) (λ e. e ≡ faults.NoMemory)
-session_only input (Ok x) h p q es l reads = one_session input x.source x.target x.events.items x.first_line p q es l h reads
-session_only input (Err (faults.Refused rule line column)) h p q es l reads = absurd (session_unrefused input p q es l _ reads h)
-session_only input (Err faults.NoMemory) h p q es l reads = refl
-
-pub session_exact : (input : Text) (r : Result Session SessionFault) → IsSessionAnswer input r → (q : SeqRefusal) → IsFirstSessionRefusal input q
-    → MatchResult r (λ _. ⊥) (λ e. IfSessionRefused e (λ s. s ≡ q))
-session_exact input (Ok x) h q first = session_unrefused input x.source x.target x.events.items x.first_line q h first
-session_exact input (Err (faults.Refused rule line column)) h q first = one_session_refusal input _ q h first
-session_exact input (Err faults.NoMemory) h q first = tt

@@ -5,7 +5,8 @@ use Rattle.std.specs.List.{join_with_byte}
 use Rattle.il_syntax.specs.Text.{location_name}
 use Rattle.il_syntax.specs.declared.program.Program.{Program}
 use Rattle.journal_text.specs.Limits.{IsValue}
-use Rattle.journal_text.specs.Line.{Text, value_word}
+use Rattle.text_parts.specs.Lines.{Text}
+use Rattle.journal_text.specs.Line.{value_word}
 use Rattle.seq_pair.specs.declared.event.EnvEvent.{EnvEvent}
 use Rattle.seq_pair.specs.declared.event.EnvEvent.TheVariants.{Enter, Run, Value, Take, Hide, Gain, See, Pass}
 

@@ -1,10 +1,8 @@
 -- What the text after the line `events` must be to be read, and where another is refused.
-use Rattle.std.specs.Prelude.{◌≡◌, ◌≢◌, ◌≤◌, ◌⊎◌, ℕ, true, List, [], ◌++◌, length}
+use Rattle.std.specs.Prelude.{◌≡◌, ◌≢◌, ◌≤◌, ◌⊎◌, ℕ, List, [], ◌++◌, length}
 use Rattle.std.specs.List.{All, flat_map}
 use Rattle.il_syntax.specs.declared.program.Program.{Program}
-use Rattle.journal_text.specs.Line.{Text}
-use Rattle.journal_text.specs.Reading.{IsLineEnd, has_no_newline}
-use Rattle.journal_text.specs.Report.{whole_line}
+use Rattle.text_parts.specs.Lines.{Text, IsLineEnd, whole_line}
 use Rattle.seq_pair.specs.declared.event.EnvEvent.{EnvEvent}
 use Rattle.seq_text.specs.declared.events.EventsFault.{EventsFault}
 use Rattle.seq_text.specs.declared.events.EventsFault.TheVariants.{Refused, NoMemory}
@@ -51,9 +49,3 @@ pub record AreEventsRefusedAfter (p : Program) (text : Text) (lines : ℕ) : Typ
 abbrev pub IsEventsFault : Program → Text → EventsFault → Type 0
 IsEventsFault p text (Refused lines) = AreEventsRefusedAfter p text lines
 IsEventsFault p text NoMemory = Unit {0}
-
--- the first line of a text without its newline, and what comes after it
-pub record IsNextLine (text line after : Text) : Type 0 where
-  pub clean : has_no_newline line ≡ true
-  pub goes_on : text ≢ []
-  pub is : (text ≡ whole_line line ++ after) ⊎ ((text ≡ line) × (after ≡ []))

@@ -1,15 +1,16 @@
 -- Each input is read in one way, or has one first refusal.
 use Rattle.std.specs.Prelude.{◌≡◌, ◌⊎◌, ℕ, List}
 use Rattle.il_syntax.specs.declared.program.Program.{Program}
-use Rattle.journal_text.specs.Line.{Text}
+use Rattle.text_parts.specs.Lines.{Text}
+use Rattle.il_reader.specs.Refusal.{Refusal}
 use Rattle.seq_pair.specs.declared.event.EnvEvent.{EnvEvent}
-use Rattle.seq_text.specs.Refusals.{SeqRefusal}
+use Rattle.seq_text.specs.declared.fault.SeqRule.{SeqRule}
 use Rattle.seq_text.specs.Reading.{ReadsSession, IsFirstSessionRefusal}
 
 abbrev pub SessionsReadOrAreRefused : Type 0
 SessionsReadOrAreRefused = (input : Text)
     → ((source : Program) × (target : Program) × (events : List EnvEvent) × (line : ℕ) × ReadsSession input source target events line)
-    ⊎ ((r : SeqRefusal) × IsFirstSessionRefusal input r)
+    ⊎ ((r : Refusal SeqRule) × IsFirstSessionRefusal input r)
 
 abbrev pub SessionsReadInOneWay : Type 0
 SessionsReadInOneWay = (input : Text) (source target : Program) (events : List EnvEvent) (line : ℕ) (source' target' : Program) (events' : List EnvEvent) (line' : ℕ)
@@ -17,8 +18,8 @@ SessionsReadInOneWay = (input : Text) (source target : Program) (events : List E
     → (source ≡ source') × (target ≡ target') × (events ≡ events') × (line ≡ line')
 
 abbrev pub SessionsThatReadAreNotRefused : Type 0
-SessionsThatReadAreNotRefused = (input : Text) (source target : Program) (events : List EnvEvent) (line : ℕ) (r : SeqRefusal)
+SessionsThatReadAreNotRefused = (input : Text) (source target : Program) (events : List EnvEvent) (line : ℕ) (r : Refusal SeqRule)
     → ReadsSession input source target events line → IsFirstSessionRefusal input r → ⊥
 
 abbrev pub SessionsHaveOneFirstRefusal : Type 0
-SessionsHaveOneFirstRefusal = (input : Text) (r q : SeqRefusal) → IsFirstSessionRefusal input r → IsFirstSessionRefusal input q → r ≡ q
+SessionsHaveOneFirstRefusal = (input : Text) (r q : Refusal SeqRule) → IsFirstSessionRefusal input r → IsFirstSessionRefusal input q → r ≡ q

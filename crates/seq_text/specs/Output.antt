@@ -5,8 +5,8 @@ use Rattle.std.specs.List.{flat_map, join_with_byte}
 use Rattle.values_undef.specs.declared.value.Val.{Val}
 use Rattle.il_syntax.specs.Text.{function_name, location_name, order_text}
 use Rattle.il_syntax.specs.declared.program.Program.{Program}
-use Rattle.journal_text.specs.Line.{Text, value_word}
-use Rattle.journal_text.specs.Report.{whole_line}
+use Rattle.text_parts.specs.Lines.{Text, whole_line}
+use Rattle.journal_text.specs.Line.{value_word}
 use Rattle.seq_semantics.specs.declared.seen.Seen.{Seen}
 use Rattle.seq_semantics.specs.declared.seen.Seen.TheVariants.{Read, Write, Update, Miss, Fence, Print, Call, End}
 use Rattle.seq_pair.specs.declared.trace.PairLabel.{PairLabel}

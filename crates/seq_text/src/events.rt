@@ -1,18 +1,18 @@
 //! The events of a text, each on a line of its own.
-ghost use Rattle.std.specs.Prelude.{◌≡◌, [], IfOk, MatchOption, MatchResult};
+ghost use Rattle.std.specs.Prelude.{◌≡◌, MatchResult};
 ghost use Rattle.il_syntax.specs.WellFormed.{IsWellFormed};
 ghost use Rattle.journal_text.specs.Limits.{HasFewLocations, HasPlainNames};
-ghost use Rattle.seq_text.specs.Events.{ReadsEnvEvents, IsEventsFault, IsNextLine};
+ghost use Rattle.seq_text.specs.Events.{ReadsEnvEvents, IsEventsFault};
 ghost use Rattle.seq_text.specs.declared.events.EventsFault.TheVariants.{NoMemory};
 
 use crate::event::event_of_line;
 use il_syntax::Program;
-use pair_text::first_line;
 use seq_pair::EnvEvent;
 use std::alloc::{AllocError, AllocFailed, Global};
+use text_parts::next_line;
 
 /// Why a text gave no events.
-#[derive(Clone, Copy, Debug, PartialEq, Eq)]
+#[derive(Clone, Copy, PartialEq, Eq)]
 pub enum EventsFault {
     /// After so many lines comes one that is no event, or one too many.
     Refused { lines: u32 },
@@ -38,19 +38,6 @@ impl<T: Drop> From<AllocFailed<T>> for EventsFault {
 
 /// The most lines of events.
 pub const MOST_ENV_EVENTS: usize = 4096;
-
-/// The first line of a text without its newline, and what comes after it.
-fn next_line(text: &[u8]) -> Option<(&[u8], &[u8])>
-    ensures { MatchOption result (text.now ≡ []) (λ x. IsNextLine text.now x.0.now x.1.now) }
-{
-    if text.is_empty() {
-        return None;
-    }
-    match first_line(text) {
-        Some(cut) => Some(cut),
-        None => Some((text, &[])),
-    }
-}
 
 fn read_lines(alloc: Global, p: &Program, text: &[u8]) -> Result<Vec<EnvEvent>, EventsFault>
     requires few { HasFewLocations p.now }

@@ -1,14 +1,15 @@
 //! Why an input of `seq` is refused.
 ghost use Rattle.std.specs.Prelude.{◌≡◌};
-ghost use Rattle.seq_text.specs.Refusals.{seq_rule_word, session_fault, seq_refused, line_refusal};
+ghost use Rattle.il_reader.specs.Refusal.{fault_map, ruled};
+ghost use Rattle.seq_text.specs.Refusals.{seq_rule_word};
+ghost use Rattle.seq_text.specs.declared.fault.SeqRule.TheVariants.{Grammar};
 
-use il_grammar::Rule;
-use il_parser::ParseFault;
+use il_parser::{InputFault, Rule};
 
 /// The rule that an input breaks.
-#[derive(Clone, Copy, Debug, PartialEq, Eq)]
+#[derive(Clone, Copy, PartialEq, Eq)]
 pub enum SeqRule {
-    /// No line is exactly `target`, or a line that is exactly `events` stands before it alone.
+    /// No line is exactly `target`.
     T,
     /// No line after the line `target` is exactly `events`; or a line after that is no event, is one too many, or is
     /// an event that is not lawful where it stands.
@@ -19,42 +20,11 @@ pub enum SeqRule {
     Grammar { rule: Rule },
 }
 
-/// Why an input is not read.
-#[derive(Clone, Copy, Debug, PartialEq, Eq)]
-pub enum SessionFault {
-    /// The rule that the input breaks, and where: lines and columns count from 1, columns in bytes.
-    Refused {
-        rule: SeqRule,
-        line: u32,
-        column: u32,
-    },
-    /// There was no memory to read it.
-    NoMemory,
-}
-
 /// A fault of the two programs, as one of the input.
-pub(crate) fn session_fault(fault: ParseFault) -> SessionFault
-    ensures { result ≡ session_fault fault }
+pub(crate) fn session_fault(fault: InputFault<Rule>) -> InputFault<SeqRule>
+    ensures { result ≡ fault_map (ruled Grammar) fault }
 {
-    match fault {
-        ParseFault::Refused { rule, line, column } => SessionFault::Refused {
-            rule: SeqRule::Grammar { rule },
-            line,
-            column,
-        },
-        ParseFault::NoMemory => SessionFault::NoMemory,
-    }
-}
-
-/// A fault of a line as a whole.
-pub(crate) fn line_fault(rule: SeqRule, line: u32) -> SessionFault
-    ensures { result ≡ seq_refused (line_refusal rule line) }
-{
-    SessionFault::Refused {
-        rule,
-        line,
-        column: 1,
-    }
+    fault.map(|rule| SeqRule::Grammar { rule })
 }
 
 impl SeqRule {

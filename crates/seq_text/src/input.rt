@@ -1,22 +1,24 @@
 //! From the bytes of an input to its two programs and its events.
 
-ghost use Rattle.std.specs.Prelude.{◌≡◌, ◌≤◌, ◌<◌, ◌+◌, ◌-◌, ◌^◌, ℕ, List, length, Err, IfOk, IfErr, MatchResult};
+ghost use Rattle.std.specs.Prelude.{◌≡◌, ◌≤◌, ◌<◌, ◌+◌, ◌-◌, ◌^◌, ℕ, List, length, IfOk, IfErr, MatchResult};
 ghost use Rattle.il_syntax.specs.WellFormed.{IsWellFormed};
 ghost use Rattle.il_syntax.specs.declared.program.Program.{Program};
-ghost use Rattle.pair_text.specs.Division.{LacksLine, DividesAtLine};
+ghost use Rattle.il_reader.specs.Refusal.{Refusal, IfRefused};
 ghost use Rattle.pair_text.specs.Reading.{SpellTexts};
-ghost use Rattle.pair_text.specs.Refusals.{target_word};
 ghost use Rattle.seq_pair.specs.declared.event.EnvEvent.{EnvEvent};
+ghost use Rattle.seq_text.specs.declared.fault.SeqRule.{SeqRule};
 ghost use Rattle.seq_text.specs.Events.{most_env_events};
-ghost use Rattle.seq_text.specs.Refusals.{SeqRefusal, IfSessionRefused, event_line_number, events_word};
+ghost use Rattle.seq_text.specs.Refusals.{event_line_number};
 ghost use Rattle.seq_text.specs.Reading.{DividesSession, ReadsSession, IsFirstSessionRefusal, IsSessionAnswer};
 
 use crate::events::{EventsFault, read_env_events};
-use crate::fault::{SeqRule, SessionFault, line_fault, session_fault};
+use crate::fault::{SeqRule, session_fault};
+use il_parser::InputFault;
 use il_syntax::Program;
-use pair_text::{ProgramPair, divide_at_line, newlines, read_texts};
+use pair_text::{ProgramPair, read_texts};
 use seq_pair::EnvEvent;
 use std::alloc::Global;
+use text_parts::{divide_at_line, newlines};
 
 /// A source program, one that may stand for it, and what an environment does.
 #[derive(Drop)]
@@ -26,16 +28,6 @@ pub struct Session {
     pub events: Vec<EnvEvent>,
     /// The line of the first event; the next ones stand on the lines after it.
     pub first_line: u32,
-}
-
-/// The fault of an input with a line `target`, after which there is no line `events`.
-fn no_events(source_text: &[u8]) -> SessionFault
-    ensures { (input rest : List ℕ) → DividesAtLine target_word input source_text.now rest → LacksLine events_word rest → IsSessionAnswer input (Err result) }
-{
-    match divide_at_line(source_text, b"events".as_slice()) {
-        Some(_) => line_fault(SeqRule::T, 1),
-        None => line_fault(SeqRule::E, 1),
-    }
 }
 
 /// The line of the first event.
@@ -54,7 +46,7 @@ fn with_events(
     source_text: &[u8],
     target_text: &[u8],
     events_text: &[u8],
-) -> Result<Session, SessionFault>
+) -> Result<Session, InputFault<SeqRule>>
     requires source { IsWellFormed pair.source }
     requires target { IsWellFormed pair.target }
     requires spelled { SpellTexts source_text.now target_text.now pair.source pair.target }
@@ -74,8 +66,10 @@ fn with_events(
             events,
             first_line,
         }),
-        Err(EventsFault::Refused { lines }) => Err(line_fault(SeqRule::E, first_line + lines)),
-        Err(EventsFault::NoMemory) => Err(SessionFault::NoMemory),
+        Err(EventsFault::Refused { lines }) => {
+            Err(InputFault::at_line(SeqRule::E, first_line + lines))
+        }
+        Err(EventsFault::NoMemory) => Err(InputFault::NoMemory),
     }
 }
 
@@ -85,7 +79,7 @@ fn texts(
     source_text: &[u8],
     target_text: &[u8],
     events_text: &[u8],
-) -> Result<Session, SessionFault>
+) -> Result<Session, InputFault<SeqRule>>
     requires { length source_text.now + length target_text.now + length events_text.now < 2 ^ 32 - 14 }
     ensures answer { (input : List ℕ) → DividesSession input source_text.now target_text.now events_text.now → IsSessionAnswer input result }
     ensures source { IfOk result (λ x. IsWellFormed x.source) }
@@ -100,7 +94,7 @@ fn texts(
 }
 
 /// The session of an input.
-fn read_input(alloc: Global, input: &[u8]) -> Result<Session, SessionFault>
+fn read_input(alloc: Global, input: &[u8]) -> Result<Session, InputFault<SeqRule>>
     requires { length input.now < 2 ^ 32 - 1 }
     ensures answer { IsSessionAnswer input.now result }
     ensures source { IfOk result (λ x. IsWellFormed x.source) }
@@ -109,10 +103,10 @@ fn read_input(alloc: Global, input: &[u8]) -> Result<Session, SessionFault>
     ensures lines { IfOk result (λ x. x.first_line + length x.events.items < 2 ^ 32) }
 {
     let Some((source_text, rest)) = divide_at_line(input, b"target".as_slice()) else {
-        return Err(line_fault(SeqRule::T, 1));
+        return Err(InputFault::at_line(SeqRule::T, 1));
     };
     let Some((target_text, events_text)) = divide_at_line(rest, b"events".as_slice()) else {
-        return Err(no_events(source_text));
+        return Err(InputFault::at_line(SeqRule::E, 1));
     };
     texts(alloc, source_text, target_text, events_text)
 }
@@ -122,10 +116,10 @@ fn read_input(alloc: Global, input: &[u8]) -> Result<Session, SessionFault>
 /// `events`; then the events, at most [`crate::MOST_ENV_EVENTS`] lines of them, whose locations are the source's.
 ///
 /// # Errors
-/// A missing line between the texts is refused in line 1: rule `T` where the line `target` is missing, also where `events`
-/// stands only before it, and else rule `E`. The source's first refusal comes next, and then the target's. At last rule
-/// `E` is refused at the first line that is no event, or that is one too many. Lines are counted over the whole input.
-pub fn read_session(alloc: Global, input: &[u8]) -> Result<Session, SessionFault>
+/// A missing line between the texts is refused in line 1: rule `T` where the line `target` is missing, and rule `E` where no
+/// line `events` comes after it. The source's first refusal comes next, and then the target's. At last rule `E` is refused
+/// at the first line that is no event, or that is one too many. Lines are counted over the whole input.
+pub fn read_session(alloc: Global, input: &[u8]) -> Result<Session, InputFault<SeqRule>>
     requires { length input.now < 2 ^ 32 - 1 }
     // What is answered is what the input reads as; a refusal that is answered is the first.
     ensures ok { IfOk result (λ x. ReadsSession input.now x.source x.target x.events.items x.first_line) }
@@ -134,11 +128,11 @@ pub fn read_session(alloc: Global, input: &[u8]) -> Result<Session, SessionFault
     ensures few { IfOk result (λ x. length x.events.items ≤ most_env_events) }
     // Each event's line has a number of 32 bits.
     ensures lines { IfOk result (λ x. x.first_line + length x.events.items < 2 ^ 32) }
-    ensures refused { IfErr result (λ e. IfSessionRefused e (λ r. IsFirstSessionRefusal input.now r)) }
+    ensures refused { IfErr result (λ e. IfRefused e (λ r. IsFirstSessionRefusal input.now r)) }
     // What the input reads as is answered, and so is its first refusal, unless memory runs out.
     ensures only { (p q : Program) (events : List EnvEvent) (line : ℕ) → ReadsSession input.now p q events line
-        → MatchResult result (λ x. (x.source ≡ p) × (x.target ≡ q) × (x.events.items ≡ events) × (x.first_line ≡ line)) (λ e. e ≡ SessionFault.NoMemory) }
-    ensures exact { (r : SeqRefusal) → IsFirstSessionRefusal input.now r → MatchResult result (λ _. ⊥) (λ e. IfSessionRefused e (λ q. q ≡ r)) }
+        → MatchResult result (λ x. (x.source ≡ p) × (x.target ≡ q) × (x.events.items ≡ events) × (x.first_line ≡ line)) (λ e. e ≡ InputFault.NoMemory) }
+    ensures exact { (r : Refusal SeqRule) → IsFirstSessionRefusal input.now r → MatchResult result (λ _. ⊥) (λ e. IfRefused e (λ q. q ≡ r)) }
 {
     read_input(alloc, input)
 }

@@ -14,6 +14,6 @@ pub mod laws;
 mod output;
 
 pub use events::{EventsFault, MOST_ENV_EVENTS, read_env_events};
-pub use fault::{SeqRule, SessionFault};
+pub use fault::SeqRule;
 pub use input::{Session, read_session};
 pub use output::write_trace;

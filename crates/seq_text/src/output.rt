@@ -3,7 +3,7 @@ ghost use Rattle.std.specs.Prelude.{◌≡◌, ◌++◌, ◌∷◌, [], IfOk, On
 ghost use Rattle.std.specs.List.{flat_map, join_with_byte};
 ghost use Rattle.il_syntax.specs.Text.{function_name, location_name, order_text};
 ghost use Rattle.journal_text.specs.Line.{value_word};
-ghost use Rattle.journal_text.specs.Report.{whole_line};
+ghost use Rattle.text_parts.specs.Lines.{whole_line};
 ghost use Rattle.seq_text.specs.Output as spec;
 
 use il_syntax::{Function, Location, Program};

@@ -1,10 +1,10 @@
-pub mod Lists
-pub mod Calls
-pub mod Counts
-pub mod Histories
-pub mod Slots
-pub mod Keeping
-pub mod Accesses
-pub mod Handing
-pub mod Rows
+mod Lists
+mod Calls
+mod Counts
+mod Histories
+mod Slots
+mod Keeping
+mod Accesses
+mod Handing
+mod Rows
 pub mod Callers

@@ -1,7 +1,6 @@
 //! A new shared memory, with its passes.
 ghost use Rattle.std.specs.Prelude.{◌≡◌, ℕ, ◌+◌, ◌≤◌, ◌<◌, [], length, replicate, vec_capacity, IfOk};
 ghost use Rattle.shared_memory.specs.Slot.{IsSmall, params_for};
-ghost use Rattle.il_syntax.specs.Given.{declared_values};
 ghost use Rattle.shared_memory.specs.Turns.{resting};
 ghost use Rattle.shared_memory.specs.Passes.{SharedValue, fresh_from};
 
@@ -12,31 +11,21 @@ use crate::rule::{SplitFirst, Turns};
 use crate::shared::Shared;
 use crate::slot::SlotValue;
 use atomic_table::{Refused, Seat, Table};
-use il_syntax::{Location, Program};
+use il_syntax::Program;
 use message_memory::MessageMemory;
 use sqlite_items::Items;
 use std::alloc::Global;
+use thread_core::declared_values;
 use values_undef::NoMemory;
 use views::View;
-
-/// The declared values of locations.
-fn values(alloc: Global, locations: &Items<Location>) -> Result<Items<i64>, NoMemory>
-    ensures { IfOk result (λ v. v ≡ declared_values locations.now) }
-{
-    let mut values = Vec::new(alloc);
-    for location in locations.as_slice() {
-        values.push(location.value)?;
-    }
-    Ok(Items::from_vec(values))
-}
 
 /// What a memory for the program is made with.
 fn params_of(alloc: Global, p: &Program, share: u64) -> Result<SharedParams, NoMemory>
     requires few { length p.now.threads ≤ 16 }
     ensures { IfOk result (λ s. s ≡ params_for p.now share) }
 {
-    let na = values(alloc, &p.na)?;
-    let atomic = values(alloc, &p.atomic)?;
+    let na = Items::from_vec(declared_values(alloc, &p.na)?);
+    let atomic = Items::from_vec(declared_values(alloc, &p.atomic)?);
     Ok(SharedParams {
         na,
         atomic,

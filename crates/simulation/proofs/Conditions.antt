@@ -1,26 +1,31 @@
 -- What the conditions of a lift give.
-use Rattle.std.proofs.Common.{◌≡◌, ℕ, zero, suc, ◌+◌, ◌≤◌, Bool, true, false, not, ◌&&◌, eqb, List, [], ◌∷◌, ◌++◌, length, slice_get, Some, Result, Ok, Err, IfOk, refl, sym, ap, ◌∙◌, subst, arith, ⊎_elim}
-use Rattle.std.proofs.lemmas.Bool.{true≢false, false≢true, eqb-true, eq-eqb, both_ways, cases_Bool}
+use Rattle.std.proofs.Common.{◌≡◌, ℕ, zero, suc, ◌+◌, ◌≤◌, Bool, true, false, not, ◌&&◌, eqb, List, [], ◌∷◌, ◌++◌, length, slice_get, take, drop, get_or, take_all, length-drop, ◌-◌, Some, Result, Ok, Err, IfOk, refl, sym, ap, ◌∙◌, subst, arith, ⊎_elim}
+use Rattle.std.proofs.lemmas.Bool.{true≢false, false≢true, eqb-true, eq-eqb, both_ways, cases_Bool, and_from}
 use Rattle.std.proofs.lemmas.List.{length-append, append-nil}
 use Rattle.std.proofs.lemmas.Option.{none-some, same_Some}
 use Rattle.std.specs.List.{AllZip}
+use Rattle.std.specs.Prelude.{All}
+use Rattle.il_syntax.specs.Statements.{site_count}
+use Rattle.il_syntax.specs.WellFormed.{IsWellFormed, declared_by}
+use Rattle.il_syntax.proofs.Callers.{functions_well_formed, function_small}
+use Rattle.validator.specs.Shape.{SameShape}
 use Rattle.il_syntax.specs.declared.program.Function.{Function}
 use Rattle.il_syntax.specs.declared.program.Program.{Program}
 use Rattle.thread_core.proofs.Callers.{well_formed_proper}
 use Rattle.validator.specs.Faults.{Accepts}
-use Rattle.validator.proofs.Callers.{accepted}
+use Rattle.validator.proofs.Callers.{accepted, if_ok}
 use Rattle.validator.specs.Accepted.{Accepted}
 use Rattle.values_undef.specs.declared.journal.Entry.{Entry}
 use Rattle.values_undef.specs.Journal.{used_steps, last_fails}
 use Rattle.view_machine.specs.State.{initial_state}
+use Rattle.view_machine.specs.Runs.{IsJournalRun}
 use Rattle.refinement.specs.Refinement.{EndsInFailure, StopsAtFailure}
 use Rattle.refinement.specs.Playings.{IsPlayed, AreFew}
-use Rattle.refinement.proofs.Refining.{refines_trans, failures_kept}
-use Rattle.refinement.proofs.Counting.{runs_stop}
-use Rattle.refinement.proofs.Ends.{failing_ends}
+use Rattle.refinement.proofs.Callers.{refines_refl, refines_trans, failures_kept, runs_stop, failing_ends}
 use Rattle.simulation.specs.Relation.{AreAccepted}
 use Rattle.simulation.specs.Laws.{MayHaveNews}
 use Rattle.simulation.specs.Conditions.{IsAcceptedTarget, have_equal_counts, has_new_registers, IsLifted}
+use Rattle.pass_chain.proofs.Callers.{small_functions}
 
 all_accepted : (fs gs : List Function) → AllZip Accepts fs gs → AllZip Accepted fs gs
 all_accepted [] [] z = tt
@@ -93,10 +98,6 @@ grow_on (f ∷ fs) [] hs y z = absurd y
 grow_on (f ∷ fs) (g ∷ gs) [] y z = absurd z
 grow_on (f ∷ fs) (g ∷ gs) (h ∷ hs) y z = (omega (arith, y.0, z.0), grow_on fs gs hs y.1 z.1)
 
-both_true : (b c : Bool) → b ≡ true → c ≡ true → (b && c) ≡ true
-both_true true c e f = f
-both_true false c e f = e
-
 -- where the first and the last are alike, so are those between
 pub between : (fs gs hs : List Function) → AllZip Grows fs gs → AllZip Grows gs hs → have_equal_counts fs hs ≡ true → (have_equal_counts fs gs ≡ true) × (have_equal_counts gs hs ≡ true)
 between [] [] hs y z e = (refl, refl)
@@ -106,8 +107,8 @@ between (f ∷ fs) (g ∷ gs) [] y z e = absurd z
 between (f ∷ fs) (g ∷ gs) (h ∷ hs) y z e =
     let same : length f.registers ≡ length h.registers = eqb-true (length f.registers) (length h.registers) (first_of_both _ _ e) in
     let rest = between fs gs hs y.1 z.1 (second_of_both _ _ e) in (
-      both_true _ _ (eq-eqb (length f.registers) (length g.registers) (omega (arith, same, y.0, z.0))) rest.0,
-      both_true _ _ (eq-eqb (length g.registers) (length h.registers) (omega (arith, same, y.0, z.0))) rest.1,
+      and_from _ _ (eq-eqb (length f.registers) (length g.registers) (omega (arith, same, y.0, z.0))) rest.0,
+      and_from _ _ (eq-eqb (length g.registers) (length h.registers) (omega (arith, same, y.0, z.0))) rest.1,
     )
 
 as_new : (b : Bool) → b ≡ true → not b ≡ false
@@ -144,20 +145,49 @@ lifted_of source target news a b e p = record {
       (p.exact (e ∙ f));
 }
 
--- the whole chain
-pub lifted_along : (source stored introduced loaded undead : Program) (a b c d e : List Entry) → IsAcceptedTarget source stored → IsAcceptedTarget stored introduced → IsAcceptedTarget introduced loaded → IsAcceptedTarget loaded undead
-    → IsLifted loaded undead a b → IsLifted introduced loaded b c → IsLifted stored introduced c d → IsLifted source stored d e → IsLifted source undead a e
-lifted_along source stored introduced loaded undead a b c d e p q r s f g h i =
+drop_none : (fs : List Function) → drop 0 fs ≡ fs
+drop_none [] = refl
+drop_none (f ∷ fs) = refl
+
+others : (f : Function) (fs : List Function) → take (length (f ∷ fs) - 1) (drop 1 (f ∷ fs)) ≡ fs
+others f fs = take_all _ _ (omega (arith, length-drop 1 (f ∷ fs))) ∙ drop_none fs
+
+-- the first of both, and the others
+pub both_accepted : (fs gs : List Function) (f g : Function) → 1 ≤ length fs → 1 ≤ length gs → f ≡ get_or fs 0 f → g ≡ get_or gs 0 g → Accepts f g → AllZip Accepts (take (length fs - 1) (drop 1 fs)) (take (length gs - 1) (drop 1 gs)) → AllZip Accepts fs gs
+both_accepted [] gs f g h k i j a z = absurd (omega (arith, h))
+both_accepted (x ∷ fs) [] f g h k i j a z = absurd (omega (arith, k))
+both_accepted (x ∷ fs) (y ∷ gs) f g h k i j a z = (
+  subst (λ (u : Function). Accepts u y) i (subst (λ (v : Function). Accepts f v) j a),
+  subst (λ (us : List Function). AllZip Accepts us gs) (others x fs) (subst (λ (vs : List Function). AllZip Accepts (take (length (x ∷ fs) - 1) (drop 1 (x ∷ fs))) vs) (others y gs) z),
+)
+
+pub accepted_target : (source target : Program) (fs gs : List Function) → fs ≡ source.functions → gs ≡ target.functions → IsWellFormed source → IsWellFormed target → SameShape source target → AllZip Accepts fs gs → IsAcceptedTarget source target
+accepted_target source target fs gs e f v w shape z = record {
+  source_well_formed = v;
+  target_well_formed = w;
+  shape = shape;
+  functions = subst (λ (hs : List Function). AllZip Accepts source.functions hs) f (subst (λ (hs : List Function). AllZip Accepts hs gs) e z);
+}
+
+-- one lift after another
+pub lifted_twice : (source middle target : Program) (a b c : List Entry) → IsAcceptedTarget source middle → IsAcceptedTarget middle target → IsLifted middle target a b → IsLifted source middle b c → IsLifted source target a c
+lifted_twice source middle target a b c y z p q =
+    lifted_on source middle target a b c (all_grow source.functions middle.functions (functions_of source middle y)) (all_grow middle.functions target.functions (functions_of middle target z)) p q
+
+-- where the programs are equal a journal is its own lift
+pub lifted_itself : (source target : Program) (a : List Entry) → source ≡ target → IsJournalRun target a → IsLifted source target a a
+lifted_itself source target a e run = record {
+  run = subst (λ (p : Program). IsJournalRun p a) (sym e) run;
+  refines = refines_refl a;
+  steps = λ f g i. refl;
+}
+
+-- both halves of a chain
+pub lifted_along : (source stored introduced loaded undead : Program) (a c e : List Entry) → IsAcceptedTarget source stored → IsAcceptedTarget stored introduced → IsAcceptedTarget introduced loaded → IsAcceptedTarget loaded undead
+    → IsLifted introduced undead a c → IsLifted source introduced c e → IsLifted source undead a e
+lifted_along source stored introduced loaded undead a c e p q r s f g =
     let one = all_grow source.functions stored.functions (functions_of source stored p) in
     let two = all_grow stored.functions introduced.functions (functions_of stored introduced q) in
     let three = all_grow introduced.functions loaded.functions (functions_of introduced loaded r) in
     let four = all_grow loaded.functions undead.functions (functions_of loaded undead s) in
-    let up = grow_on introduced.functions loaded.functions undead.functions three four in
-    let upper = grow_on stored.functions introduced.functions undead.functions two up in
-    lifted_on source stored undead a d e one upper
-    (lifted_on stored introduced undead a c d two up (lifted_on introduced loaded undead a b c three four f g) h) i
-
--- what holds of the value, if there is one
-pub ok_more : {T E : Type 0} (r : Result T E) (P Q : T → Type 0) → ((x : T) → P x → Q x) → IfOk r P → IfOk r Q
-ok_more (Ok x) P Q f h = f x h
-ok_more (Err e) P Q f h = tt
+    lifted_on source introduced undead a c e (grow_on source.functions stored.functions introduced.functions one two) (grow_on introduced.functions loaded.functions undead.functions three four) f g

@@ -1,1 +1,1 @@
-pub mod Copies
+mod Copies

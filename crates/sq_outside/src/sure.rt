@@ -59,7 +59,7 @@ impl Source for SureSource {
 }
 
 /// Takes every piece whole, keeps nothing, and so tells nothing of what was written. It has no fault.
-#[derive(Clone, Copy, Debug, Default, PartialEq, Eq)]
+#[derive(Clone, Copy, Default, PartialEq, Eq)]
 pub struct SureSink;
 
 impl SureSink {

@@ -6,7 +6,7 @@ use Rattle.il_syntax.specs.declared.statement.Stmt.TheOpen.{Stmt-F, Block-F, Ski
 use Rattle.il_syntax.specs.declared.statement.Block.{Block, roll-Block, fold-Block, fold_out-Block}
 use Rattle.il_syntax.specs.Statements.{depth_step, depth_block, depth_of, depth_of_all, greatest}
 use Rattle.il_paths.specs.Tree.{Tree, statement_step, before_rest, tree_of, tree_of_all}
-use Rattle.il_paths.proofs.Trees.{layer, before_rest-out, tree_of-block}
+use Rattle.il_paths.proofs.Callers.{layer, before_rest-out, tree_of-block}
 use Rattle.thread_core.specs.Path.{depth}
 
 abbrev folded : Block → ℕ

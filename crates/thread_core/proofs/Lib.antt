@@ -1,9 +1,11 @@
-pub mod Placing
-pub mod Keeping
-pub mod WellFormedProper
-pub mod EachHead
-pub mod Paths
-pub mod Depths
-pub mod Asking
-pub mod Silent
+mod Placing
+mod Keeping
+mod WellFormedProper
+mod EachHead
+mod Paths
+mod Depths
+mod Asking
+mod Silent
+mod Opened
+mod Budgets
 pub mod Callers

@@ -1,6 +1,7 @@
 -- Positions of a program.
 use Rattle.std.proofs.Common.{◌≡◌, ℕ, zero, suc, ◌≤◌, Some, Option, List, [], ◌∷◌, length, map, arith, refl, sym, ap, subst, ◌∙◌, slice_get, None, MatchOption, IfSome, IsSomeAnd, IfOk, Result, Ok, Err}
 use Rattle.std.specs.List.{AllByRecursion}
+use Rattle.values_undef.proofs.Callers.{all_got}
 use Rattle.values_undef.specs.declared.value.Val.{Val}
 use Rattle.il_syntax.specs.declared.statement.Atom.{Atom}
 use Rattle.il_syntax.specs.declared.statement.Atom.TheVariants.{Const, Reg}
@@ -13,8 +14,7 @@ use Rattle.il_syntax.specs.declared.statement.Stmt.{Stmt}
 use Rattle.il_syntax.specs.Statements.{Head, head_of}
 use Rattle.il_paths.specs.Tree.{Tree, Empty, Then, IfThen, WhileThen, before_rest, tree_of}
 use Rattle.il_paths.specs.Code.{Code, End, placed, join, first_head, AllHeads}
-use Rattle.il_paths.proofs.Resuming.{at_first, first_of, all_placed, all_first}
-use Rattle.il_paths.proofs.Running.{join-end}
+use Rattle.il_paths.proofs.Callers.{at_first, first_of, all_placed, all_first, join-end}
 use Rattle.thread_core.specs.Programs.{function_at, body_of, code_of, IsProperAtom, IsProperUpdate, IsProperHead, IsProperFunction, IsProperProgram}
 use Rattle.thread_core.specs.declared.position.Position.{Position}
 use Rattle.thread_core.specs.Frames.{Frame, Stack, evaluated, loaded, blank, begun, advanced_at, advanced}
@@ -24,12 +24,6 @@ use Rattle.thread_core.specs.declared.path.Outer.{Outer}
 use Rattle.thread_core.specs.declared.path.Path.{Path}
 use Rattle.thread_core.specs.Path.{tail_of, width, tree_from, inner_block, statements_at, site_at, rest_at, standing, standing_of, IsLeft, way, tree_at, site_of, continuation_of, IsPlace}
 use Rattle.thread_core.specs.Steps.{Positions, frame_in, stack_in, entered, first_path}
-
--- what each has, the one that is got has
-pub all_got : {X : Type 0} (P : X → Type 0) (xs : List X) (i : ℕ) (x : X) → AllByRecursion P xs → slice_get xs i ≡ Some x → P x
-all_got P [] i x all e = cc
-all_got P (y ∷ ys) zero x all e = let q : y ≡ x = cc in subst P q all.0
-all_got P (y ∷ ys) (suc i) x all e = all_got P ys i x all.1 e
 
 pub function_proper : (p : Program) (f : ℕ) (g : Function) → IsProperProgram p → function_at p f ≡ Some g → IsProperFunction p g
 function_proper p f g h e = all_got (IsProperFunction p) p.functions f g h.functions e

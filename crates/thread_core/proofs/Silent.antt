@@ -5,11 +5,11 @@ use Rattle.thread_core.specs.declared.next.Next.TheVariants as next
 use Rattle.thread_core.specs.Frames.{Stack, next_of, advanced}
 use Rattle.thread_core.specs.Alone.{HasSilent, local_after_silent}
 
-after_more : (p : Program) (n : ℕ) (l : Stack) → local_after_silent p (suc n) l ≡ advanced p (local_after_silent p n l)
+pub after_more : (p : Program) (n : ℕ) (l : Stack) → local_after_silent p (suc n) l ≡ advanced p (local_after_silent p n l)
 after_more p zero l = refl
 after_more p (suc n) l = after_more p n (advanced p l)
 
-silent_more : (p : Program) (n : ℕ) (l : Stack) → HasSilent p n l → next_of (local_after_silent p n l) ≡ next.Silent → HasSilent p (suc n) l
+pub silent_more : (p : Program) (n : ℕ) (l : Stack) → HasSilent p n l → next_of (local_after_silent p n l) ≡ next.Silent → HasSilent p (suc n) l
 silent_more p zero l h e = (e, tt)
 silent_more p (suc n) l h e = (h.0, silent_more p n (advanced p l) h.1 e)
 

@@ -5,6 +5,7 @@ use Rattle.std.proofs.lemmas.List.{length-map}
 use Rattle.std.proofs.lemmas.Bool.{and_parts, ltb-true, leb-true, eqb-true, false≢true}
 use Rattle.std.specs.List.{list_all, AllByRecursion}
 use Rattle.values_undef.specs.Access.{acquires, releases}
+use Rattle.values_undef.proofs.Callers.{all_tested}
 use Rattle.values_undef.specs.declared.access.Order.{Order}
 use Rattle.values_undef.specs.declared.access.Order.TheVariants.{Rlx, Acq, Rel, AcqRel}
 use Rattle.il_syntax.specs.declared.statement.Atom.{Atom}
@@ -19,15 +20,8 @@ use Rattle.il_syntax.specs.Statements.{heads_of_all, site_count, depth_of_all}
 use Rattle.il_syntax.specs.WellFormed.{declared_by, params_of, atom_exists, operands_exist, numbers_exist, atomic_location_exists, na_location_exists, is_load_order, is_store_order, order_is_allowed, has_params, arity_agrees, each_statement, function_numbers_exist, function_is_within_limits, blocks_are_shallow, thread_numbers_exist, thread_arity_agrees, is_signed_64, is_short, names_of, IsWellFormed}
 use Rattle.il_syntax.specs.Statements.{Head}
 use Rattle.il_paths.specs.Tree.{tree_of}
-use Rattle.il_paths.proofs.HeadsInOrder.{heads_agree, all_heads_of}
+use Rattle.il_paths.proofs.Callers.{heads_agree, all_heads_of}
 use Rattle.thread_core.specs.Programs.{function_at, IsProperAtom, IsProperUpdate, IsProperHead, IsProperFunction, IsProperStart, IsProperProgram}
-
--- ---- tests of a list
-
-all_tested : {X : Type 0} (test : X → Bool) (P : X → Type 0) (xs : List X) → ((x : X) → test x ≡ true → P x) → list_all test xs ≡ true → AllByRecursion P xs
-all_tested test P [] f h = tt
-all_tested test P (x ∷ xs) f h =
-    let q = and_parts (test x) (list_all test xs) h in (f x q.0, all_tested test P xs f q.1)
 
 -- ---- one statement
 

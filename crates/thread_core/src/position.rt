@@ -5,8 +5,8 @@ ghost use Rattle.values_undef.specs.declared.value.Val.TheVariants.{Def};
 ghost use Rattle.il_syntax.specs.Statements.{head_of};
 ghost use Rattle.il_paths.specs.Code.{first_head};
 ghost use Rattle.thread_core.specs.Programs.{function_at, body_of, IsProperAtom, IsProperUpdate, IsProperHead, IsProperFunction, IsProperProgram, IsProperNext};
-ghost use Rattle.thread_core.specs.Frames.{evaluated, evaluated_kind, holds, passed, gave, worked, told, target_of, given_by, received, function_result, next_at, loaded, blank};
-ghost use Rattle.thread_core.specs.Steps.{frame_in, statement_at, entered, first_path, IsPosition};
+ghost use Rattle.thread_core.specs.Frames.{evaluated, evaluated_kind, holds, passed, gave, worked, told, target, target_of, given_by, received, function_result, next_at, loaded, blank};
+ghost use Rattle.thread_core.specs.Steps.{frame_in, statement_at, StandsAt, entered, first_path, IsPosition};
 
 use crate::next::{Next, computed, decided, deepened, printed};
 use crate::path::Path;
@@ -37,18 +37,21 @@ impl Position {
         ensures value { MatchOption result (first_head (frame_in p.now self.now).continuation ≡ None) (λ s. first_head (frame_in p.now self.now).continuation ≡ Some (head_of s.now)) }
         ensures statement { IfSome result (λ s. statement_at p.now self.now ≡ Some s.now) }
         ensures proper { IfSome result (λ s. IsProperHead p.now 64 (head_of s.now)) }
+        ensures stands { IfSome result (λ s. StandsAt p.now self.now s.now) }
     {
         self.path.statement(&function_at(p, self.function).body)
     }
 
-    /// The next statement is done.
-    pub fn pass(&mut self, p: &Program, holds: bool)
+    /// The next statement, which is this one, is done.
+    pub fn pass(&mut self, p: &Program, statement: &Stmt, holds: bool)
         requires proper { IsProperProgram p.now }
         requires at { IsPosition p.now self.old }
+        requires stands { StandsAt p.now self.old statement.now }
         ensures frame { frame_in p.now self.new ≡ passed (frame_in p.now self.old) holds }
         ensures at { IsPosition p.now self.new }
     {
-        self.path.pass(&function_at(p, self.function).body, holds);
+        self.path
+            .pass(&function_at(p, self.function).body, statement, holds);
     }
 
     /// The value of an atom.
@@ -77,15 +80,16 @@ impl Position {
         }
     }
 
-    /// The next statement is done, and gives a value.
-    pub fn give(&mut self, p: &Program, r: u32, v: Val)
+    /// The next statement, which is this one, is done, and gives a value.
+    pub fn give(&mut self, p: &Program, statement: &Stmt, r: u32, v: Val)
         requires proper { IsProperProgram p.now }
         requires at { IsPosition p.now self.old }
+        requires stands { StandsAt p.now self.old statement.now }
         requires register { r < 64 }
         ensures frame { frame_in p.now self.new ≡ gave (frame_in p.now self.old) r v }
         ensures at { IsPosition p.now self.new }
     {
-        self.pass(p, true);
+        self.pass(p, statement, true);
         self.registers[r as usize] = v;
     }
 
@@ -130,24 +134,25 @@ impl Position {
         Next::Access { a }
     }
 
-    /// Makes a silent step that is no call.
+    /// Makes the silent step of the next statement, which is this one and no call.
     pub fn work(&mut self, p: &Program, statement: &Stmt)
         requires proper { IsProperProgram p.now }
         requires at { IsPosition p.now self.old }
+        requires stands { StandsAt p.now self.old statement.now }
         requires statement { IsProperHead p.now 64 (head_of statement.now) }
         ensures frame { frame_in p.now self.new ≡ worked (frame_in p.now self.old) (head_of statement.now) }
         ensures at { IsPosition p.now self.new }
     {
         match statement {
-            Stmt::Skip => self.pass(p, true),
-            Stmt::Copy { r, a } => self.give(p, *r, self.value(a)),
+            Stmt::Skip => self.pass(p, statement, true),
+            Stmt::Copy { r, a } => self.give(p, statement, *r, self.value(a)),
             Stmt::Compute { r, op, a, b } => {
                 if let Some(v) = apply(*op, self.value(a), self.value(b)) {
-                    self.give(p, *r, v);
+                    self.give(p, statement, *r, v);
                 }
             }
-            Stmt::If { a, .. } => self.pass(p, holds(self.value(a))),
-            Stmt::While { a, .. } => self.pass(p, holds(self.value(a))),
+            Stmt::If { a, .. } => self.pass(p, statement, holds(self.value(a))),
+            Stmt::While { a, .. } => self.pass(p, statement, holds(self.value(a))),
             _ => {}
         }
     }
@@ -159,24 +164,12 @@ impl Position {
         ensures frame { frame_in p.now self.new ≡ told (frame_in p.now self.old) (target_of (first_head (frame_in p.now self.old).continuation)) (given_by e.now) }
         ensures at { IsPosition p.now self.new }
     {
-        match (self.target(p), given_by(e)) {
-            (Some(r), Some(v)) => self.give(p, r, v),
-            _ => self.pass(p, true),
-        }
-    }
-
-    /// The register to which the next access gives a value.
-    fn target(&self, p: &Program) -> Option<u32>
-        requires proper { IsProperProgram p.now }
-        requires at { IsPosition p.now self.now }
-        ensures value { result ≡ target_of (first_head (frame_in p.now self.now).continuation) }
-        ensures register { IfSome result (λ r. r < 64) }
-    {
-        match self.head(p)? {
-            Stmt::Load { r, .. } => Some(*r),
-            Stmt::AtomicLoad { r, .. } => Some(*r),
-            Stmt::Update { r, .. } => Some(*r),
-            _ => None,
+        let Some(statement) = self.head(p) else {
+            return;
+        };
+        match (target(p, statement), given_by(e)) {
+            (Some(r), Some(v)) => self.give(p, statement, r, v),
+            _ => self.pass(p, statement, true),
         }
     }
 
@@ -187,8 +180,11 @@ impl Position {
         ensures frame { frame_in p.now self.new ≡ received (frame_in p.now self.old) v }
         ensures at { IsPosition p.now self.new }
     {
-        if let Some(Stmt::Call { r, .. }) = self.head(p) {
-            self.give(p, *r, v);
+        let Some(statement) = self.head(p) else {
+            return;
+        };
+        if let Stmt::Call { r, .. } = statement {
+            self.give(p, statement, *r, v);
         }
     }
 
@@ -248,6 +244,20 @@ impl Position {
             path: Path::first(),
             registers,
         }
+    }
+}
+
+/// The register to which the access of a statement gives a value.
+fn target(_p: &Program, statement: &Stmt) -> Option<u32>
+    requires { IsProperHead _p.now 64 (head_of statement.now) }
+    ensures value { result ≡ target (head_of statement.now) }
+    ensures register { IfSome result (λ r. r < 64) }
+{
+    match statement {
+        Stmt::Load { r, .. } => Some(*r),
+        Stmt::AtomicLoad { r, .. } => Some(*r),
+        Stmt::Update { r, .. } => Some(*r),
+        _ => None,
     }
 }
 

@@ -16,7 +16,8 @@ use Rattle.message_memory.specs.EventLaws.{IsOfKind, spends, is_end}
 use Rattle.message_memory.proofs.Callers.{events_of_kind}
 use Rattle.view_machine.specs.Runs.{is_spend}
 use Rattle.chooser.specs.Chosen.{leaves_choice}
-use Rattle.threaded_runner.specs.Underway.{is_last}
+use Rattle.thread_core.specs.Alone.{is_last}
+use Rattle.run_choices.proofs.Callers.{spend_ends}
 
 not_spend : (a : Access) → (a ≡ Spend → ⊥) → spends a ≡ false
 not_spend (NaRead x) n = refl
@@ -46,20 +47,6 @@ module _ {m : Memory} {v : ThreadView} {i : ℕ} {a : Access} {c : Choice} {e : 
   -- the end of a thread ends it
   pub ends_of : (a ≡ Finish) ⊎ (a ≡ Spend) → ends_thread e ≡ true
   ends_of is = kind.ends ∙ ⊎_elim (λ (f : a ≡ Finish). ap is_end f) (λ (s : a ≡ Spend). ap is_end s) is
-
-pub spend_ends : (e : Event) → is_spend e ≡ true → ends_thread e ≡ true
-spend_ends (event.NaRead x v) h = absurd cc
-spend_ends (event.NaWrite x v version) h = absurd cc
-spend_ends (event.Read y order v to) h = absurd cc
-spend_ends (event.Write y order v from to) h = absurd cc
-spend_ends (event.Update y order old new read to) h = absurd cc
-spend_ends (event.Miss y order old read) h = absurd cc
-spend_ends (event.Fence order) h = absurd cc
-spend_ends (event.Print v) h = absurd cc
-spend_ends (event.Fail cause) h = absurd cc
-spend_ends (event.FailCompare y read) h = absurd cc
-spend_ends event.Finish h = absurd cc
-spend_ends event.Spend h = refl
 
 pub finish_ends : (e : Event) → is_finish e ≡ true → ends_thread e ≡ true
 finish_ends (event.NaRead x v) h = absurd cc

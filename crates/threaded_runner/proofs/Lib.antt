@@ -1,6 +1,6 @@
-pub mod Own
-pub mod Worked
-pub mod Events
-pub mod Underway
-pub mod Rows
-pub mod Together
+mod Own
+mod Worked
+mod Events
+mod Underway
+mod Rows
+mod Together

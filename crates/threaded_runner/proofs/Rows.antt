@@ -15,7 +15,8 @@ use Rattle.run_choices.specs.Drawn.{atomic_entries_of}
 use Rattle.shared_memory.specs.Passes.{SharedValue, PassValue, IsPassOf, IsRow, own_calls}
 use Rattle.threaded_runner.specs.declared.worker.Worker.{Worker}
 use Rattle.threaded_runner.specs.Worked.{CallsAreDrawn, Worked}
-use Rattle.threaded_runner.specs.Underway.{IsUnderway, stack_after, is_last}
+use Rattle.thread_core.specs.Alone.{is_last}
+use Rattle.threaded_runner.specs.Underway.{IsUnderway, stack_after}
 use Rattle.threaded_runner.specs.Workers.{IsReady, HasWorked, EachOf, IsDescending}
 use Rattle.threaded_runner.proofs.Own.{some_own, atomics_own}
 
@@ -38,14 +39,6 @@ each_all P Q [] [] f e = tt
 each_all P Q [] (y ∷ ys) f e = absurd e
 each_all P Q (x ∷ xs) [] f e = absurd e
 each_all P Q (x ∷ xs) (y ∷ ys) f e = (f x y e.0, each_all P Q xs ys f e.1)
-
-pub all_push : {X : Type 0} (P : X → Type 0) (xs : List X) (x : X) → AllByRecursion P xs → P x → AllByRecursion P (xs ++ x ∷ [])
-all_push P [] x h q = (q, tt)
-all_push P (y ∷ ys) x h q = (h.0, all_push P ys x h.1 q)
-
-pub all_pop : {X : Type 0} (P : X → Type 0) (xs : List X) (x : X) → AllByRecursion P (xs ++ x ∷ []) → AllByRecursion P xs × P x
-all_pop P [] x h = (tt, h.0)
-all_pop P (y ∷ ys) x h = let r = all_pop P ys x h.1 in ((h.0, r.0), r.1)
 
 -- ---- workers, the last first
 

@@ -5,6 +5,7 @@ use Rattle.std.specs.Prelude.{◌||◌, MatchOption}
 use Rattle.std.specs.List.{AllByRecursion}
 use Rattle.std.proofs.lemmas.List.{map-append}
 use Rattle.std.proofs.lemmas.Bool.{cond-true, cond-false, ne_eqb, eq-eqb, eqb-true, cases_eq, cases_Bool, false≢true}
+use Rattle.values_undef.proofs.Callers.{all_push}
 use Rattle.rand_pcg.specs.Lcg.{Lcg}
 use Rattle.values_undef.specs.Access.{choice_of_event, is_atomic_event, is_failure, ends_thread}
 use Rattle.values_undef.specs.Journal.{used_steps, entry_steps, last_fails}
@@ -27,16 +28,17 @@ use Rattle.view_machine.specs.Laws.{HasSilent, local_after_silent, MakesCallBy, 
 use Rattle.run_choices.specs.Complete.{has_spent}
 use Rattle.run_choices.specs.Complete.{has_ended}
 use Rattle.run_choices.specs.Drawn.{atomic_entries_of}
-use Rattle.run_choices.proofs.Callers.{used_more, ended_more, spent_more}
+use Rattle.run_choices.proofs.Callers.{used_more, ended_more, spent_more, spend_ends}
 use Rattle.shared_memory.specs.declared.params.SharedParams.{SharedParams}
 use Rattle.shared_memory.specs.Slot.{IsHistory, params_for, memory_with, view_with, call_of}
 use Rattle.shared_memory.specs.Passes.{PassValue, own_calls, AccessDone, AccessStopped}
 use Rattle.shared_memory.specs.Answers.{FailsAt}
 use Rattle.view_machine.specs.Merged.{opening_of}
 use Rattle.threaded_runner.specs.Worked.{candidates_of_call, CallsAreDrawn, Worked}
-use Rattle.threaded_runner.specs.Underway.{stack_after, is_last, IsUnderway, IsNextAccess}
+use Rattle.thread_core.specs.Alone.{is_last}
+use Rattle.threaded_runner.specs.Underway.{stack_after, IsUnderway, IsNextAccess}
 use Rattle.threaded_runner.proofs.Own.{within_beginning, snoc, fails_push, atomics_own}
-use Rattle.threaded_runner.proofs.Events.{spend_of, spend_not, atomic_of, ends_of, spend_ends, finish_ends, fails_or_ends, ends_last, goes_on_ends}
+use Rattle.threaded_runner.proofs.Events.{spend_of, spend_not, atomic_of, ends_of, finish_ends, fails_or_ends, ends_last, goes_on_ends}
 
 -- how many steps an event counts beside the silent ones
 abbrev pub counted : Bool → ℕ
@@ -60,10 +62,6 @@ follows_push p l (x ∷ calls) c f on h m = (
 stack_push : (p : Program) (l : Stack) (calls : List Call) (c : Call) → stack_after p l (calls ++ c ∷ []) ≡ local_after_event (local_after_silent p c.silent (stack_after p l calls)) c.event
 stack_push p l [] c = refl
 stack_push p l (x ∷ calls) c = stack_push p (local_after_event (local_after_silent p x.silent l) x.event) calls c
-
-all_push : (P : Call → Type 0) (calls : List Call) (c : Call) → AllByRecursion P calls → P c → AllByRecursion P (calls ++ c ∷ [])
-all_push P [] c all one = (one, tt)
-all_push P (x ∷ calls) c all one = (all.0, all_push P calls c all.1 one)
 
 used_push : (i : ℕ) (calls : List Call) (c : Call) → c.thread ≡ i → used_steps (entries_of (calls ++ c ∷ [])) i ≡ used_steps (entries_of calls) i + entry_steps (entry_of c)
 used_push i calls c own =
@@ -120,7 +118,7 @@ Go g i count = after_draw g
 
 module _ (p : Program) (share seed steps left n : ℕ) (old new : PassValue) (stack : Stack) (g g' : Lcg) (a : Access) (event : Event)
     (params : old.params ≡ params_for p share) (under : IsUnderway p old.thread old.seen stack g seed steps left) (most : n ≤ left) (silent : HasSilent p n stack)
-    (asks : IsNextAccess (local_after_silent p n stack) (eqb n left) a) (same : new.thread ≡ old.thread) (done : AccessDone (λ (g : Lcg) (i count : ℕ). drawn g count) (λ (g : Lcg) (i count : ℕ). after_draw g) old new n a g g' event) where
+    (asks : IsNextAccess (next_of (local_after_silent p n stack)) (eqb n left) a) (same : new.thread ≡ old.thread) (done : AccessDone (λ (g : Lcg) (i count : ℕ). drawn g count) (λ (g : Lcg) (i count : ℕ). after_draw g) old new n a g g' event) where
   abbrev i : ℕ
   i = old.thread
 

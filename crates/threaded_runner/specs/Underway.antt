@@ -1,20 +1,20 @@
 -- A thread that is on its way: what it has done, where it stands, and what it has left.
-use Rattle.std.specs.Prelude.{◌≡◌, ◌⊎◌, ℕ, ◌+◌, Bool, true, false, ◌||◌, List, [], ◌∷◌}
+use Rattle.std.specs.Prelude.{◌≡◌, ◌⊎◌, ℕ, ◌+◌, Bool, true, false, List, [], ◌∷◌}
 use Rattle.std.specs.List.{AllByRecursion}
 use Rattle.rand_pcg.specs.Lcg.{Lcg}
-use Rattle.values_undef.specs.Access.{is_failure, ends_thread}
 use Rattle.values_undef.specs.Journal.{used_steps}
 use Rattle.values_undef.specs.declared.access.Access.{Access}
 use Rattle.values_undef.specs.declared.access.Access.TheVariants as access
-use Rattle.values_undef.specs.declared.access.Event.{Event}
 use Rattle.il_syntax.specs.declared.program.Program.{Program}
 use Rattle.message_memory.specs.declared.history.Call.{Call}
 use Rattle.message_memory.specs.History.{calls_by, entries_of}
+use Rattle.thread_core.specs.declared.next.Next.{Next}
 use Rattle.thread_core.specs.declared.next.Next.TheVariants as next
-use Rattle.thread_core.specs.Frames.{Stack, next_of}
+use Rattle.thread_core.specs.Frames.{Stack}
+use Rattle.thread_core.specs.Alone.{is_last, local_after_silent, local_after_event}
 use Rattle.chooser.specs.Draws.{generator, word}
-use Rattle.view_machine.specs.State.{local_in, initial_state, local_after_event}
-use Rattle.view_machine.specs.Laws.{FollowsThread, local_after_silent}
+use Rattle.view_machine.specs.State.{local_in, initial_state}
+use Rattle.view_machine.specs.Laws.{FollowsThread}
 use Rattle.run_choices.specs.Drawn.{atomic_entries_of}
 use Rattle.threaded_runner.specs.Worked.{CallsAreDrawn}
 
@@ -22,10 +22,6 @@ use Rattle.threaded_runner.specs.Worked.{CallsAreDrawn}
 abbrev pub stack_after : Program → Stack → List Call → Stack
 stack_after p l [] = l
 stack_after p l (call ∷ calls) = stack_after p (local_after_event (local_after_silent p call.silent l) call.event) calls
-
--- a thread does nothing more after this event
-abbrev pub is_last : Event → Bool
-is_last e = is_failure e || ends_thread e
 
 -- The thread stands where its own calls have led it. None of them was its last. What they have used of the budget and what is
 -- left are the budget, their choices are drawn, and the words of its generator are the seed's from the next one on.
@@ -37,8 +33,8 @@ pub record IsUnderway (p : Program) (thread : ℕ) (seen : List Call) (stack : S
   pub drawn : CallsAreDrawn p thread seen seed
   pub words : (k : ℕ) → word draw k ≡ word (generator seed thread) (atomic_entries_of thread (entries_of seen) + k)
 
--- The access that a thread makes next: what its code asks for, or the end of a budget that is used up. With a budget that is
--- used up it makes one that ends it.
-pub record IsNextAccess (stack : Stack) (spent : Bool) (a : Access) : Type 0 where
-  pub asked : ((next_of stack ≡ next.Access a) × (a ≡ access.Spend → ⊥)) ⊎ ((a ≡ access.Spend) × (spent ≡ true) × (next_of stack ≡ next.Access access.Finish → ⊥))
+-- The access of a thread's entry, from what comes next in the thread: what its code asks for, or the end of a
+-- budget that is used up. With a budget that is used up it is one that ends the thread.
+pub record IsNextAccess (n : Next) (spent : Bool) (a : Access) : Type 0 where
+  pub asked : ((n ≡ next.Access a) × (a ≡ access.Spend → ⊥)) ⊎ ((a ≡ access.Spend) × (spent ≡ true) × (n ≡ next.Access access.Finish → ⊥))
   pub ends : spent ≡ true → (a ≡ access.Finish) ⊎ (a ≡ access.Spend)

@@ -2,28 +2,25 @@
 ghost use Rattle.std.specs.Prelude.{◌≡◌, ◌+◌, ◌≤◌, true, false, MatchOption};
 ghost use Rattle.message_memory.specs.Step.{IsProper};
 ghost use Rattle.shared_memory.specs.Slot.{first_memory, params_for};
-ghost use Rattle.thread_core.specs.Programs.{IsProperProgram};
-ghost use Rattle.thread_core.specs.Frames.{next_of};
+ghost use Rattle.thread_core.specs.Programs.{IsProperProgram, IsProperNext};
 ghost use Rattle.thread_core.specs.Steps.{stack_in, ArePositions};
-ghost use Rattle.view_machine.specs.State.{local_after_event};
-ghost use Rattle.threaded_runner.specs.Underway.{is_last, IsNextAccess};
+ghost use Rattle.thread_core.specs.Alone.{is_last, local_after_event};
+ghost use Rattle.threaded_runner.specs.Underway.{IsNextAccess};
 
 use il_syntax::Program;
 use thread_core::{Local, Next};
 use values_undef::{Access, Event};
 
-/// The access that comes next: what the code asks for, or `Spend` where the budget is used up and the thread is not at its end.
-pub fn next_access(local: &Local, p: &Program, spent: bool) -> Access
-    requires proper { IsProperProgram p.now }
-    requires at { ArePositions p.now local.now }
-    requires stops { next_of (stack_in p.now local.now) ≡ Next.Silent → spent ≡ true }
-    ensures next { IsNextAccess (stack_in p.now local.now) spent result }
-    ensures proper { IsProper (first_memory (params_for p.now 0)) result }
+/// The access of a thread's entry, from what comes next in the thread: `Spend` where its budget ends it.
+pub fn next_access(_p: &Program, next: Next, spent: bool) -> Access
+    requires named { IsProperNext _p.now next }
+    requires stops { next ≡ Next.Silent → spent ≡ true }
+    ensures next { IsNextAccess next spent result }
+    ensures proper { IsProper (first_memory (params_for _p.now 0)) result }
 {
-    match local.next(p) {
-        Next::Silent => Access::Spend,
-        Next::Access { a: Access::Finish } => Access::Finish,
-        Next::Access { a } => { if spent { Access::Spend } else { a } }
+    match next.within(spent) {
+        Some(a) => a,
+        None => Access::Spend,
     }
 }
 
@@ -36,9 +33,9 @@ pub fn carry_on(local: &mut Local, p: &Program, event: &Event, left: u64) -> Opt
     ensures at { ArePositions p.now local.new }
     ensures left { MatchOption result (is_last event.now ≡ true) (λ n. (is_last event.now ≡ false) × (n + 1 ≡ left)) }
 {
-    if event.is_failure() || event.ends_thread() {
-        return None;
+    if local.take(p, event) {
+        Some(left - 1)
+    } else {
+        None
     }
-    local.resume(p, event);
-    Some(left - 1)
 }

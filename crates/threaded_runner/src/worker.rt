@@ -51,8 +51,8 @@ impl<M: MessageMemory> Worker<M> {
             (Worked p.now self.old.pass.thread self.new.pass.seen (own_calls self.new.pass) seed steps)
             (λ n. (n < left) × IsUnderway p.now self.old.pass.thread self.new.pass.seen (stack_in p.now self.new.local) self.new.draw seed steps n) }
     {
-        let silent = self.local.run_silent(p, left);
-        let a = next_access(&self.local, p, silent == left);
+        let (silent, next) = self.local.run_to(p, left);
+        let a = next_access(p, next, silent == left);
         gate.before(self.pass.thread(), own);
         match shared.access(rt, &mut self.pass, silent, &a, &mut self.draw) {
             Answer::Done { event } => carry_on(&mut self.local, p, &event, left - silent),

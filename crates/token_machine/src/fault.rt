@@ -6,7 +6,7 @@ ghost use Rattle.token_machine.specs.declared.fault.ReadError.TheVariants.{NoMem
 use std::alloc::{AllocError, AllocFailed};
 
 /// Why a text is refused, and where.
-#[derive(Clone, Copy, Debug, PartialEq, Eq)]
+#[derive(Clone, Copy, PartialEq, Eq)]
 pub struct Fault<R> {
     pub rule: R,
     /// How many tokens are left there, the one at fault among them: 0 at the end of the text.
@@ -14,7 +14,7 @@ pub struct Fault<R> {
 }
 
 /// Why a text was not read.
-#[derive(Debug, Drop)]
+#[derive(Drop)]
 pub enum ReadError<R> {
     /// The allocator gave no memory.
     NoMemory,

@@ -1,9 +1,12 @@
 -- What is known of each command: its outputs go with statuses of outputs, an input that it accepts is answered by its
--- work, and one that it refuses by a refusal.
-use Rattle.std.proofs.Common.{ℕ, List}
+-- work, and one that it refuses by a
+-- refusal; and where it writes reports, they tell runs.
+use Rattle.std.proofs.Common.{◌≡◌, ◌⊎◌, ℕ, true, List}
 use Rattle.tool.specs.declared.status.Status.{Status}
 use Rattle.tool.specs.declared.status.Status.TheVariants as status
 use Rattle.tool.specs.Meaning.{CommandMeaning}
+use Rattle.tool.specs.Refusals.{IsTextRefusal}
+use Rattle.tool.specs.Headline.{TellsRun}
 use Rattle.tool.specs.Outputs.{IsRefusalStatus}
 
 -- a status that goes with an output
@@ -23,3 +26,4 @@ pub record CommandFacts (m : CommandMeaning) : Type 0 where
   pub works : (bytes out : List ℕ) (s : Status) → m.output bytes out s → m.accepted bytes → m.works s
   pub refuses : (bytes out : List ℕ) (s : Status) → m.output bytes out s → m.refused bytes → IsRefusalStatus s
   pub no_memory : m.works status.NoMemory
+  pub tells : (bytes out : List ℕ) (s : Status) → m.reports ≡ true → m.condition → m.output bytes out s → TellsRun bytes out s ⊎ IsTextRefusal bytes out s

@@ -9,47 +9,14 @@ use Rattle.il_syntax.specs.declared.program.Program.{Program}
 use Rattle.rand_pcg.specs.Lcg.{Lcg}
 use Rattle.view_machine.specs.State.{State, initial_state, start_of}
 use Rattle.view_machine.specs.Runs.{after_entry, after_silent, IsRunFrom, IsJournalRun, state_after}
-use Rattle.view_machine.proofs.RunLaws.{runs_cut}
 use Rattle.chooser.specs.Draws.{generator, generators, generator_at, absent_generator, drawn, drawn_by, after_draw, after_draw_by, word}
 use Rattle.walker.specs.Choices.{IsEventChosenBy, AreChosenFrom, AreChosenBy}
-use Rattle.walker.specs.Drawn.{candidates_of, TakesCandidate, atomic_entries_of, Drawn}
-use Rattle.walker.proofs.Callers.{determined, entry_there, entry_threads}
-use Rattle.walker.proofs.DrawnLemmas.{state_threads}
+use Rattle.run_choices.specs.Drawn.{candidates_of, TakesCandidate, atomic_entries_of, Drawn}
+use Rattle.walker.proofs.Callers.{determined, word_after, length_after, state_threads}
+use Rattle.chooser.proofs.Callers.{first_word, next_word}
+use Rattle.view_machine.proofs.Callers.{entry_there, entry_threads, runs_cut}
 use Rattle.words.specs.declared.command.Drawing.TheVariants.{Seed}
 use Rattle.tool.specs.Walk.{IsWalkOf}
-
-first_word : (g : Lcg) (count : ℕ) → drawn g count ≡ word g 0 % count
-unfolding word
-first_word g count = refl
-
-next_word : (g : Lcg) (k : ℕ) → word (after_draw g) k ≡ word g (suc k)
-unfolding word
-next_word g k = refl
-
--- a thread's generator after an entry: a word further where the entry is an atomic one of the thread
-word_after : (all : List Lcg) (i thread k count : ℕ) (atomic : Bool) → i < length all
-    → word (generator_at (cond atomic (after_draw_by all thread count) all) i) k ≡ word (generator_at all i) (cond (eqb thread i && atomic) 1 0 + k)
-word_after all i thread k count false lt =
-    ap (word (generator_at all i)) (let q : k ≡ cond (eqb thread i && false) 1 0 + k = elim (eqb thread i) as (λ b. k ≡ cond (b && false) 1 0 + k) [ true ↦ omega arith | false ↦ omega arith ] in q)
-word_after all i thread k count true lt =
-    elim (cases_eq thread i) [
-      | inl same ↦
-          let here : generator_at (after_draw_by all thread count) i ≡ after_draw (generator_at all i) =
-          subst (λ (x : ℕ). generator_at (after_draw_by all x count) i ≡ after_draw (generator_at all i)) (sym same)
-          (get_or-set_same all i (after_draw (generator_at all i)) absent_generator lt) in
-          let one : cond (eqb thread i && true) 1 0 + k ≡ suc k = ap (λ (b : Bool). cond (b && true) 1 0 + k) (eq-eqb thread i same) ∙ omega arith in
-          ap (λ (g : Lcg). word g k) here ∙ next_word (generator_at all i) k ∙ ap (word (generator_at all i)) (sym one)
-      | inr other ↦
-          let there : generator_at (after_draw_by all thread count) i ≡ generator_at all i =
-          get_or-set_other all thread i (after_draw (generator_at all thread)) absent_generator (λ e. other (sym e)) in
-          let none : cond (eqb thread i && true) 1 0 + k ≡ k = ap (λ (b : Bool). cond (b && true) 1 0 + k) (ne_eqb thread i other) ∙ omega arith in
-          ap (λ (g : Lcg). word g k) there ∙ ap (word (generator_at all i)) (sym none)
-    ]
-
--- the generators stay as many
-length_after : (all : List Lcg) (thread count : ℕ) (atomic : Bool) → length (cond atomic (after_draw_by all thread count) all) ≡ length all
-length_after all thread count false = refl
-length_after all thread count true = length-set all thread (after_draw (generator_at all thread))
 
 -- the atomic entries take the candidates that these generators draw
 abbrev DrawnFrom : Program → State → List Lcg → List Entry → Type 0

@@ -1,16 +1,19 @@
 -- The facts of each command, and its condition where words mean it.
-use Rattle.std.proofs.Common.{ℕ, ◌≤◌, List, Option, Some, None, arith}
+use Rattle.std.proofs.Common.{ℕ, ◌≤◌, true, false, List, Option, Some, None, arith}
 use Rattle.words.specs.declared.command.Command.{Command}
 use Rattle.words.specs.declared.command.Command.TheVariants.{Check, Opt, Validate, Seq, Walk, Run, Replay, Gen}
 use Rattle.words.specs.Meaning.{GivesNumber, Means}
+use Rattle.reports.specs.Targets.{IsOptimised}
 use Rattle.tool.specs.Commands.{meaning_of, HasCondition}
+use Rattle.tool.specs.Walk.{IsWalkOf}
+use Rattle.tool.specs.Run.{IsThreadedRun}
+use Rattle.tool.specs.Laws.{ReportsTellRuns}
 use Rattle.tool.proofs.CommandFacts.{CommandFacts}
 use Rattle.tool.proofs.CheckFacts.{check_facts}
 use Rattle.tool.proofs.OptFacts.{opt_facts}
 use Rattle.tool.proofs.ValidateFacts.{validate_facts}
 use Rattle.tool.proofs.SeqFacts.{seq_facts}
-use Rattle.tool.proofs.WalkFacts.{walk_facts}
-use Rattle.tool.proofs.RunFacts.{run_facts}
+use Rattle.tool.proofs.ReportFacts.{report_facts}
 use Rattle.tool.proofs.ReplayFacts.{replay_facts}
 use Rattle.tool.proofs.GenFacts.{gen_facts}
 
@@ -19,8 +22,8 @@ command_facts Check = check_facts
 command_facts Opt = opt_facts
 command_facts Validate = validate_facts
 command_facts (Seq function) = seq_facts function
-command_facts (Walk order draws steps) = walk_facts order draws steps
-command_facts (Run seed steps) = run_facts seed steps
+command_facts (Walk order draws steps) = report_facts false IsOptimised (IsWalkOf order draws steps) steps
+command_facts (Run seed steps) = report_facts true IsOptimised (IsThreadedRun seed steps) steps
 command_facts Replay = replay_facts
 command_facts (Gen number functions form) = gen_facts number functions form
 
@@ -33,14 +36,13 @@ gives_functions None n is = (omega (arith, is), omega (arith, is))
 gives_functions (Some text) n is = (is.1, is.2)
 
 of_values : (command : Command) (words : List (List ℕ)) → Means words command → HasCondition command
-of_values Check words m = tt
-of_values Opt words m = tt
-of_values Validate words m = tt
-of_values (Seq function) words m = tt
 of_values (Walk order draws steps) words m = gives_budget _ steps m.values.2
 of_values (Run seed steps) words m = gives_budget _ steps m.values.1
-of_values Replay words m = tt
 of_values (Gen number functions form) words m = gives_functions _ functions m.values.1
+of_values _ words m = tt
 
 pub has_condition : (words : List (List ℕ)) (command : Command) → Means words command → HasCondition command
 has_condition words command m = of_values command words m
+
+pub reports_tell_runs : ReportsTellRuns
+reports_tell_runs command bytes out s is condition output = (command_facts command).tells bytes out s is condition output

@@ -18,4 +18,4 @@ module _ (number functions : ℕ) (form : Form) where
   refuses bytes out s x input = absurd input
 
   pub gen_facts : CommandFacts (gen_meaning number functions form)
-  gen_facts = record { outputs = outputs; works = works; refuses = refuses; no_memory = inr refl }
+  gen_facts = record { outputs = outputs; works = works; refuses = refuses; no_memory = inr refl; tells = λ bytes out s is. absurd cc }

@@ -10,11 +10,12 @@ use Rattle.pass_chain.specs.declared.chains.ProgramChain.{ProgramChain}
 use Rattle.pass_chain.specs.declared.counts.Counts.{Counts}
 use Rattle.simulation.specs.Conditions.{IsLifted}
 use Rattle.words.specs.declared.command.Drawing.TheVariants.{Seed}
+use Rattle.reports.specs.Targets.{target_program}
 use Rattle.tool.specs.Gen.{IsChainSummary, IsSummary, summary_lines}
 use Rattle.tool.specs.Walk.{IsWalkOf}
 
 pub chain_summary : (number : ℕ) (c : ProgramChain) (journal source : List Entry) (counts : Counts) (entries : ℕ) (ending : Ending) (out : List ℕ)
-    → IsWalkOf [] (Seed number) 1000 c.undead journal → IsLifted c.source c.undead journal source → counts ≡ counts_of c → entries ≡ length journal → ending ≡ ending_in journal (length c.undead.threads)
+    → IsWalkOf [] (Seed number) 1000 (target_program c) journal → IsLifted c.source (target_program c) journal source → counts ≡ counts_of c → entries ≡ length journal → ending ≡ ending_in journal (length (target_program c).threads)
     → out ≡ summary_lines counts entries ending → IsChainSummary number c out
 chain_summary number c journal source counts entries ending out walk lifted same_counts same_entries same_ending written = record {
   journal = journal;

@@ -23,4 +23,4 @@ refuses bytes out s (inl x) input = absurd (spelled_unrefused bytes x.program in
 refuses bytes out s (inr x) input = inl x.status
 
 pub opt_facts : CommandFacts opt_meaning
-opt_facts = record { outputs = outputs; works = works; refuses = refuses; no_memory = inr refl }
+opt_facts = record { outputs = outputs; works = works; refuses = refuses; no_memory = inr refl; tells = λ bytes out s is. absurd cc }

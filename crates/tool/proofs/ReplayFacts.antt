@@ -5,7 +5,8 @@ use Rattle.values_undef.specs.declared.journal.Ending.{Ending}
 use Rattle.il_syntax.specs.declared.program.Program.{Program}
 use Rattle.replay.specs.declared.verdict.Verdict.{Verdict}
 use Rattle.replay.specs.declared.verdict.Verdict.TheVariants.{Run, NotAStep}
-use Rattle.replay_text.specs.Refusal.{TextRefusal}
+use Rattle.il_reader.specs.Refusal.{Refusal}
+use Rattle.replay_text.specs.declared.fault.TextRule.{TextRule}
 use Rattle.replay_text.specs.Reading.{ReadsReplay, IsFirstTextRefusal}
 use Rattle.replay_text.proofs.Callers.{replay_unrefused}
 use Rattle.tool.specs.declared.status.Status.{Status}
@@ -35,9 +36,9 @@ works : (bytes out : List ℕ) (s : Status) → IsReplayOutput bytes out s → (
 works bytes out s (inl x) input = by_verdict x.ending x.verdict out s x.output
 works bytes out s (inr x) input = absurd (replay_unrefused bytes input.0 input.1 input.2 x.refusal input.3 x.first)
 
-refuses : (bytes out : List ℕ) (s : Status) → IsReplayOutput bytes out s → (r : TextRefusal) × IsFirstTextRefusal bytes r → IsRefusalStatus s
+refuses : (bytes out : List ℕ) (s : Status) → IsReplayOutput bytes out s → (r : Refusal TextRule) × IsFirstTextRefusal bytes r → IsRefusalStatus s
 refuses bytes out s (inl x) input = absurd (replay_unrefused bytes x.program x.entries x.ending input.0 x.reads input.1)
 refuses bytes out s (inr x) input = inl x.status
 
 pub replay_facts : CommandFacts replay_meaning
-replay_facts = record { outputs = outputs; works = works; refuses = refuses; no_memory = inr (inr refl) }
+replay_facts = record { outputs = outputs; works = works; refuses = refuses; no_memory = inr (inr refl); tells = λ bytes out s is. absurd cc }

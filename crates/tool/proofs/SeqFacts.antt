@@ -12,7 +12,7 @@ use Rattle.seq_session.specs.declared.answer.SeqAnswer.TheVariants.{Refused, Oth
 use Rattle.seq_session.proofs.Callers.{one_seq_answer}
 use Rattle.tool.specs.declared.status.Status.{Status}
 use Rattle.tool.specs.declared.status.Status.TheVariants as status
-use Rattle.tool.specs.Seq.{IsWrittenAnswer, IsSeqOutput, IsTaken, IsRefused, seq_meaning}
+use Rattle.tool.specs.Seq.{IsWrittenAnswer, IsSeqOutput, IsAnswered, IsRefused, seq_meaning}
 use Rattle.tool.specs.Outputs.{IsRefusalStatus}
 use Rattle.tool.specs.Laws.{SeqsHaveOneOutput, IsPlayedPair, SeqsPlayAcceptedPairs}
 use Rattle.tool.proofs.CommandFacts.{IsOutputStatus, CommandFacts}
@@ -27,7 +27,7 @@ outputs_by OtherShape out s h = subst IsOutputStatus (sym h.1) tt
 outputs_by (RefusedFunction function site why) out s h = subst IsOutputStatus (sym h.1) tt
 outputs_by (Played text) out s h = subst IsOutputStatus (sym h.1) tt
 
-works_by : (a : SeqAnswer) (out : List ℕ) (s : Status) → IsWrittenAnswer a out s → IsTaken a → IsSeqStatus s
+works_by : (a : SeqAnswer) (out : List ℕ) (s : Status) → IsWrittenAnswer a out s → IsAnswered a → IsSeqStatus s
 works_by (Refused rule line column) out s h taken = absurd taken
 works_by OtherShape out s h taken = inr (inl h.1)
 works_by (RefusedFunction function site why) out s h taken = inr (inl h.1)
@@ -53,14 +53,14 @@ module _ (name bytes : List ℕ) where
   outputs : (out : List ℕ) (s : Status) → IsSeqOutput name bytes out s → IsOutputStatus s
   outputs out s x = outputs_by x.answer out s x.written
 
-  works : (out : List ℕ) (s : Status) → IsSeqOutput name bytes out s → (a : SeqAnswer) × IsSeqAnswer bytes name a × IsTaken a → IsSeqStatus s
+  works : (out : List ℕ) (s : Status) → IsSeqOutput name bytes out s → (a : SeqAnswer) × IsSeqAnswer bytes name a × IsAnswered a → IsSeqStatus s
   works out s x input = works_by input.0 out s (written_of out s input.0 x input.1) input.2
 
   refuses : (out : List ℕ) (s : Status) → IsSeqOutput name bytes out s → (a : SeqAnswer) × IsSeqAnswer bytes name a × IsRefused a → IsRefusalStatus s
   refuses out s x input = refuses_by input.0 out s (written_of out s input.0 x input.1) input.2
 
 pub seq_facts : (name : List ℕ) → CommandFacts (seq_meaning name)
-seq_facts name = record { outputs = outputs name; works = works name; refuses = refuses name; no_memory = inr (inr refl) }
+seq_facts name = record { outputs = outputs name; works = works name; refuses = refuses name; no_memory = inr (inr refl); tells = λ bytes out s is. absurd cc }
 
 pub seqs_have_one_output : SeqsHaveOneOutput
 seqs_have_one_output name bytes one other s t x y = one_by y.answer one other s t (written_of name bytes one s y.answer x y.answers) y.written

@@ -1,7 +1,8 @@
 -- What is known of `validate`.
 use Rattle.std.proofs.Common.{◌≡◌, ◌⊎◌, ℕ, List, inl, inr, refl, sym, subst}
 use Rattle.il_syntax.specs.declared.program.Program.{Program}
-use Rattle.pair_text.specs.Refusals.{PairRefusal}
+use Rattle.il_reader.specs.Refusal.{Refusal}
+use Rattle.pair_text.specs.declared.fault.PairRule.{PairRule}
 use Rattle.pair_text.specs.Reading.{ReadsPair, IsFirstPairRefusal}
 use Rattle.pair_text.proofs.Callers.{pair_unrefused}
 use Rattle.tool.specs.declared.status.Status.{Status}
@@ -31,9 +32,9 @@ works : (bytes out : List ℕ) (s : Status) → IsValidateOutput bytes out s →
 works bytes out s (inl x) input = by_verdict x.source x.target out s x.verdict
 works bytes out s (inr x) input = absurd (pair_unrefused bytes input.0 input.1 x.refusal input.2 x.first)
 
-refuses : (bytes out : List ℕ) (s : Status) → IsValidateOutput bytes out s → (r : PairRefusal) × IsFirstPairRefusal bytes r → IsRefusalStatus s
+refuses : (bytes out : List ℕ) (s : Status) → IsValidateOutput bytes out s → (r : Refusal PairRule) × IsFirstPairRefusal bytes r → IsRefusalStatus s
 refuses bytes out s (inl x) input = absurd (pair_unrefused bytes x.source x.target input.0 x.reads input.1)
 refuses bytes out s (inr x) input = inl x.status
 
 pub validate_facts : CommandFacts validate_meaning
-validate_facts = record { outputs = outputs; works = works; refuses = refuses; no_memory = inr (inr refl) }
+validate_facts = record { outputs = outputs; works = works; refuses = refuses; no_memory = inr (inr refl); tells = λ bytes out s is. absurd cc }

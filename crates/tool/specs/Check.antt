@@ -1,5 +1,5 @@
 -- `check`: whether a text is a program.
-use Rattle.std.specs.Prelude.{◌≡◌, ◌⊎◌, ℕ, List, Some, codes}
+use Rattle.std.specs.Prelude.{◌≡◌, ◌⊎◌, ℕ, false, List, Some, codes}
 use Rattle.il_syntax.specs.declared.program.Program.{Program}
 use Rattle.il_parser.specs.Text.{SpellsProgram}
 use Rattle.tool.specs.declared.status.Status.{Status}
@@ -23,6 +23,8 @@ IsCheckOutput bytes out result = IsAcceptance bytes out result ⊎ IsTextRefusal
 
 abbrev pub check_meaning : CommandMeaning
 check_meaning = record {
+  waits = false;
+  reports = false;
   limit = Some text_limit;
   condition = Unit {0};
   output = IsCheckOutput;

@@ -1,5 +1,5 @@
 -- The table of the commands: what each of them means.
-use Rattle.std.specs.Prelude.{ℕ, List, Option}
+use Rattle.std.specs.Prelude.{◌≡◌, ℕ, true, false, List, Option}
 use Rattle.words.specs.declared.command.Command.{Command}
 use Rattle.words.specs.declared.command.Command.TheVariants.{Check, Opt, Validate, Seq, Walk, Run, Replay, Gen}
 use Rattle.tool.specs.declared.status.Status.{Status}
@@ -31,16 +31,12 @@ limit_of command = (meaning_of command).limit
 abbrev pub HasCondition : Command → Type 0
 HasCondition command = (meaning_of command).condition
 
--- the commands that wait for nothing: all but `run`
+-- the commands that wait for nothing, and those that write the report of a run
 abbrev pub WaitsForNothing : Command → Type 0
-WaitsForNothing Check = Unit {0}
-WaitsForNothing Opt = Unit {0}
-WaitsForNothing Validate = Unit {0}
-WaitsForNothing (Seq function) = Unit {0}
-WaitsForNothing (Walk order draws steps) = Unit {0}
-WaitsForNothing (Run seed steps) = ⊥
-WaitsForNothing Replay = Unit {0}
-WaitsForNothing (Gen number functions form) = Unit {0}
+WaitsForNothing command = (meaning_of command).waits ≡ false
+
+abbrev pub ReportsRuns : Command → Type 0
+ReportsRuns command = (meaning_of command).reports ≡ true
 
 -- the output of a command for its whole input, and the status that goes with it
 abbrev pub IsOutputOf : Command → List ℕ → List ℕ → Status → Type 0

@@ -1,5 +1,5 @@
 -- `gen`: a program that is made from a number, or what the passes did to it and how a run of it ends.
-use Rattle.std.specs.Prelude.{◌≡◌, ◌⊎◌, ◌≤◌, ℕ, List, [], ◌++◌, None, codes, length}
+use Rattle.std.specs.Prelude.{◌≡◌, ◌⊎◌, ◌≤◌, ℕ, false, List, [], ◌++◌, None, codes, length}
 use Rattle.std.specs.Fmt.{decimal}
 use Rattle.values_undef.specs.Journal.{ending_in}
 use Rattle.values_undef.specs.declared.journal.Ending.{Ending}
@@ -12,6 +12,7 @@ use Rattle.pass_chain.specs.Counts.{counts_of}
 use Rattle.pass_chain.specs.declared.chains.ProgramChain.{ProgramChain}
 use Rattle.pass_chain.specs.declared.counts.Counts.{Counts}
 use Rattle.simulation.specs.Conditions.{IsLifted}
+use Rattle.reports.specs.Targets.{target_program}
 use Rattle.words.specs.declared.command.Drawing.TheVariants.{Seed}
 use Rattle.words.specs.declared.command.Form.{Form}
 use Rattle.words.specs.declared.command.Form.TheVariants.{Text, Summary}
@@ -46,9 +47,9 @@ summary_lines counts entries ending = counts_lines counts ++ (number_line (codes
 pub record IsChainSummary (number : ℕ) (chain : ProgramChain) (out : List ℕ) : Type 0 where
   pub journal : List Entry
   pub source : List Entry
-  pub walk : IsWalkOf [] (Seed number) 1000 chain.undead journal
-  pub lifted : IsLifted chain.source chain.undead journal source
-  pub written : out ≡ summary_lines (counts_of chain) (length journal) (ending_in journal (length chain.undead.threads))
+  pub walk : IsWalkOf [] (Seed number) 1000 (target_program chain) journal
+  pub lifted : IsLifted chain.source (target_program chain) journal source
+  pub written : out ≡ summary_lines (counts_of chain) (length journal) (ending_in journal (length (target_program chain).threads))
 
 -- The lines tell of the five programs that the passes make of this one.
 pub record IsSummary (number : ℕ) (program : Program) (out : List ℕ) : Type 0 where
@@ -67,6 +68,8 @@ IsGenOutput number functions form out result = IsForm form number functions out 
 -- it reads nothing, and makes from 1 to 256 functions
 abbrev pub gen_meaning : ℕ → ℕ → Form → CommandMeaning
 gen_meaning number functions form = record {
+  waits = false;
+  reports = false;
   limit = None;
   condition = (1 ≤ functions) × (functions ≤ 256);
   output = λ _. IsGenOutput number functions form;

@@ -1,10 +1,9 @@
 -- `opt`: the optimised program.
-use Rattle.std.specs.Prelude.{◌≡◌, ◌⊎◌, ℕ, List, Some}
+use Rattle.std.specs.Prelude.{◌≡◌, ◌⊎◌, ℕ, false, List, Some}
 use Rattle.il_syntax.specs.Text.{program_text}
 use Rattle.il_syntax.specs.declared.program.Program.{Program}
 use Rattle.il_parser.specs.Text.{SpellsProgram}
-use Rattle.pass_chain.specs.Chain.{IsOptAll}
-use Rattle.pass_chain.specs.declared.chains.ProgramChain.{ProgramChain}
+use Rattle.reports.specs.Targets.{IsOptimised}
 use Rattle.tool.specs.declared.status.Status.{Status}
 use Rattle.tool.specs.declared.status.Status.TheVariants as status
 use Rattle.tool.specs.Meaning.{CommandMeaning}
@@ -14,10 +13,10 @@ use Rattle.tool.specs.Refusals.{IsTextRefusal, HasTextRefusal, text_limit}
 -- spell.
 pub record IsOptimisedText (bytes out : List ℕ) (result : Status) : Type 0 where
   pub program : Program
-  pub chain : ProgramChain
+  pub target : Program
   pub spelled : SpellsProgram bytes program
-  pub optimised : IsOptAll program chain
-  pub written : out ≡ program_text chain.undead
+  pub optimised : IsOptimised program target
+  pub written : out ≡ program_text target
   pub status : result ≡ status.Done
 
 abbrev pub IsOptOutput : List ℕ → List ℕ → Status → Type 0
@@ -25,6 +24,8 @@ IsOptOutput bytes out result = IsOptimisedText bytes out result ⊎ IsTextRefusa
 
 abbrev pub opt_meaning : CommandMeaning
 opt_meaning = record {
+  waits = false;
+  reports = false;
   limit = Some text_limit;
   condition = Unit {0};
   output = IsOptOutput;

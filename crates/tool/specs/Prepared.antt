@@ -7,7 +7,7 @@ use Rattle.tool.specs.declared.answer.Output.{Output}
 use Rattle.tool.specs.declared.output.NoOutput.{NoOutput}
 use Rattle.tool.specs.declared.output.NoOutput.TheVariants as no_output
 use Rattle.tool.specs.Commands.{limit_of}
-use Rattle.tool.specs.Outputs.{TakesAtMost, IsOutput}
+use Rattle.tool.specs.Outputs.{TakesSome, TakesAtMost, IsOutput}
 use Rattle.tool.specs.Answers.{Seen}
 
 -- an input within the limit, all of it; or one that is longer; or why neither was read
@@ -21,4 +21,4 @@ HasRead limit a b (Err no_output.NoMemory) = ConsumesPrefix a.bytes b.bytes
 abbrev pub HasPrepared : Command → (source_before source_now : Seen) → Result Output NoOutput → Type 0
 HasPrepared command a b (Ok o) = IsOutput command a.bytes b.bytes o.bytes.items o.status
 HasPrepared command a b (Err no_output.Read) = TakesAtMost (limit_of command) a.bytes b.bytes × Rose a.faults b.faults
-HasPrepared command a b (Err no_output.NoMemory) = ConsumesPrefix a.bytes b.bytes
+HasPrepared command a b (Err no_output.NoMemory) = TakesSome (limit_of command) a.bytes b.bytes

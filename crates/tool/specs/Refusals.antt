@@ -2,6 +2,7 @@
 use Rattle.std.specs.Prelude.{◌≡◌, ℕ, List, ◌++◌, codes}
 use Rattle.std.specs.Fmt.{decimal}
 use Rattle.il_grammar.specs.Rule.{rule_word}
+use Rattle.il_grammar.specs.declared.rule.Rule.{Rule}
 use Rattle.il_reader.specs.Refusal.{Refusal}
 use Rattle.il_parser.specs.Text.{IsFirstRefusal}
 use Rattle.tool.specs.declared.status.Status.{Status}
@@ -21,10 +22,10 @@ text_limit = 1048576
 
 -- The bytes are the text of no program; the output says which rule they break first, and where.
 pub record IsTextRefusal (bytes out : List ℕ) (result : Status) : Type 0 where
-  pub refusal : Refusal
+  pub refusal : Refusal Rule
   pub first : IsFirstRefusal bytes refusal
   pub written : out ≡ refusal_line (rule_word refusal.rule) refusal.line refusal.column
   pub status : result ≡ status.Input
 
 abbrev pub HasTextRefusal : List ℕ → Type 0
-HasTextRefusal bytes = (r : Refusal) × IsFirstRefusal bytes r
+HasTextRefusal bytes = (r : Refusal Rule) × IsFirstRefusal bytes r

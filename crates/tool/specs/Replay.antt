@@ -1,12 +1,13 @@
 -- `replay`: whether the journal of an input is a run of its program.
-use Rattle.std.specs.Prelude.{◌≡◌, ◌≢◌, ◌⊎◌, ℕ, List, Some, ◌++◌, codes}
+use Rattle.std.specs.Prelude.{◌≡◌, ◌≢◌, ◌⊎◌, ℕ, false, List, Some, ◌++◌, codes}
 use Rattle.std.specs.Fmt.{decimal}
 use Rattle.values_undef.specs.declared.journal.Entry.{Entry}
 use Rattle.values_undef.specs.declared.journal.Ending.{Ending}
 use Rattle.values_undef.specs.declared.journal.Ending.TheVariants as ending
 use Rattle.il_syntax.specs.declared.program.Program.{Program}
-use Rattle.replay_text.specs.Rule.{text_rule_word}
-use Rattle.replay_text.specs.Refusal.{TextRefusal}
+use Rattle.il_reader.specs.Refusal.{Refusal}
+use Rattle.replay_text.specs.declared.fault.TextRule.{TextRule}
+use Rattle.replay_text.specs.Refusal.{text_rule_word}
 use Rattle.replay_text.specs.Reading.{ReadsReplay, IsFirstTextRefusal}
 use Rattle.replay.specs.declared.verdict.Why.{Why}
 use Rattle.replay.specs.declared.verdict.Why.TheVariants as why
@@ -52,7 +53,7 @@ IsVerdictOutput given (NotAStep k w) out result = (out ≡ no_entry_line k w) ×
 
 -- The input is no program with a journal; the output says which rule it breaks first, and where.
 pub record IsReplayRefusal (bytes out : List ℕ) (result : Status) : Type 0 where
-  pub refusal : TextRefusal
+  pub refusal : Refusal TextRule
   pub first : IsFirstTextRefusal bytes refusal
   pub written : out ≡ refusal_line (text_rule_word refusal.rule) refusal.line refusal.column
   pub status : result ≡ status.Input
@@ -72,10 +73,12 @@ IsReplayOutput bytes out result = IsJudgement bytes out result ⊎ IsReplayRefus
 
 abbrev pub replay_meaning : CommandMeaning
 replay_meaning = record {
+  waits = false;
+  reports = false;
   limit = Some 134217728;
   condition = Unit {0};
   output = IsReplayOutput;
   accepted = λ bytes. (p : Program) × (entries : List Entry) × (e : Ending) × ReadsReplay bytes p entries e;
-  refused = λ bytes. (r : TextRefusal) × IsFirstTextRefusal bytes r;
+  refused = λ bytes. (r : Refusal TextRule) × IsFirstTextRefusal bytes r;
   works = λ s. (s ≡ status.Done) ⊎ ((s ≡ status.No) ⊎ (s ≡ status.NoMemory));
 }

@@ -1,5 +1,5 @@
 -- `seq`: a function of a source and of its target, played together through the events of an environment.
-use Rattle.std.specs.Prelude.{◌≡◌, ◌⊎◌, ℕ, List, Some}
+use Rattle.std.specs.Prelude.{◌≡◌, ◌⊎◌, ℕ, false, List, Some}
 use Rattle.seq_text.specs.Refusals.{seq_rule_word}
 use Rattle.seq_session.specs.Session.{IsSeqAnswer}
 use Rattle.seq_session.specs.declared.answer.SeqAnswer.{SeqAnswer}
@@ -26,11 +26,11 @@ pub record IsSeqOutput (name bytes out : List ℕ) (result : Status) : Type 0 wh
 
 -- an answer by which the input isn't refused, and one by which it is
 
-abbrev pub IsTaken : SeqAnswer → Type 0
-IsTaken (Refused rule line column) = ⊥
-IsTaken OtherShape = Unit {0}
-IsTaken (RefusedFunction function site why) = Unit {0}
-IsTaken (Played text) = Unit {0}
+abbrev pub IsAnswered : SeqAnswer → Type 0
+IsAnswered (Refused rule line column) = ⊥
+IsAnswered OtherShape = Unit {0}
+IsAnswered (RefusedFunction function site why) = Unit {0}
+IsAnswered (Played text) = Unit {0}
 
 abbrev pub IsRefused : SeqAnswer → Type 0
 IsRefused (Refused rule line column) = Unit {0}
@@ -40,10 +40,12 @@ IsRefused (Played text) = ⊥
 
 abbrev pub seq_meaning : List ℕ → CommandMeaning
 seq_meaning name = record {
+  waits = false;
+  reports = false;
   limit = Some 4194304;
   condition = Unit {0};
   output = IsSeqOutput name;
-  accepted = λ bytes. (a : SeqAnswer) × IsSeqAnswer bytes name a × IsTaken a;
+  accepted = λ bytes. (a : SeqAnswer) × IsSeqAnswer bytes name a × IsAnswered a;
   refused = λ bytes. (a : SeqAnswer) × IsSeqAnswer bytes name a × IsRefused a;
   works = λ s. (s ≡ status.Done) ⊎ ((s ≡ status.No) ⊎ (s ≡ status.NoMemory));
 }

@@ -1,14 +1,15 @@
 -- `validate`: whether the functions of one program may stand for those of another.
-use Rattle.std.specs.Prelude.{◌≡◌, ◌⊎◌, ℕ, zero, suc, List, [], ◌∷◌, Some, ◌++◌, codes}
+use Rattle.std.specs.Prelude.{◌≡◌, ◌⊎◌, ℕ, false, List, Some, ◌++◌, codes}
 use Rattle.std.specs.Fmt.{decimal}
-use Rattle.il_syntax.specs.declared.program.Function.{Function}
 use Rattle.il_syntax.specs.declared.program.Program.{Program}
 use Rattle.validator.specs.declared.fault.Fault.{Fault}
 use Rattle.validator.specs.declared.fault.Fault.TheVariants.{V1, V2, V3, V4, V5, V6, V7}
-use Rattle.validator.specs.Faults.{Accepts, IsFirstFault}
 use Rattle.validator.specs.Shape.{SameShape}
+use Rattle.validator.specs.Programs.{IsFirstRefused}
 use Rattle.parallel_driver.specs.Neighbours.{IsAcceptedNeighbour}
-use Rattle.pair_text.specs.Refusals.{PairRefusal, pair_rule_word}
+use Rattle.il_reader.specs.Refusal.{Refusal}
+use Rattle.pair_text.specs.declared.fault.PairRule.{PairRule}
+use Rattle.pair_text.specs.Refusals.{pair_rule_word}
 use Rattle.pair_text.specs.Reading.{ReadsPair, IsFirstPairRefusal}
 use Rattle.tool.specs.declared.status.Status.{Status}
 use Rattle.tool.specs.declared.status.Status.TheVariants as status
@@ -37,13 +38,6 @@ fault_word V7 = codes "V7"
 abbrev pub refused_function_line : ℕ → ℕ → Fault → List ℕ
 refused_function_line function site why = codes "refused " ++ (decimal function ++ (codes " " ++ (decimal site ++ (codes " " ++ (fault_word why ++ codes "\n")))))
 
--- This function of the targets is the first that its source doesn't accept, and at this site is its first fault.
-abbrev pub IsFirstRefused : List Function → List Function → ℕ → ℕ → Fault → Type 0
-IsFirstRefused [] gs k site why = ⊥
-IsFirstRefused (f ∷ fs) [] k site why = ⊥
-IsFirstRefused (f ∷ fs) (g ∷ gs) zero site why = IsFirstFault f g site why
-IsFirstRefused (f ∷ fs) (g ∷ gs) (suc k) site why = Accepts f g × IsFirstRefused fs gs k site why
-
 -- What is written of two programs: the shape comes first, then the functions by their numbers.
 pub data IsPairVerdict (source target : Program) (out : List ℕ) (result : Status) : Type 0 where
   other_shape : (SameShape source target → ⊥) → out ≡ other_shape_line → result ≡ status.No → IsPairVerdict source target out result
@@ -53,7 +47,7 @@ pub data IsPairVerdict (source target : Program) (out : List ℕ) (result : Stat
 
 -- The input is no pair of programs; the output says which rule it breaks first, and where.
 pub record IsValidateRefusal (bytes out : List ℕ) (result : Status) : Type 0 where
-  pub refusal : PairRefusal
+  pub refusal : Refusal PairRule
   pub first : IsFirstPairRefusal bytes refusal
   pub written : out ≡ refusal_line (pair_rule_word refusal.rule) refusal.line refusal.column
   pub status : result ≡ status.Input
@@ -70,10 +64,12 @@ IsValidateOutput bytes out result = IsValidation bytes out result ⊎ IsValidate
 
 abbrev pub validate_meaning : CommandMeaning
 validate_meaning = record {
+  waits = false;
+  reports = false;
   limit = Some 4194304;
   condition = Unit {0};
   output = IsValidateOutput;
   accepted = λ bytes. (source : Program) × (target : Program) × ReadsPair bytes source target;
-  refused = λ bytes. (r : PairRefusal) × IsFirstPairRefusal bytes r;
+  refused = λ bytes. (r : Refusal PairRule) × IsFirstPairRefusal bytes r;
   works = λ s. (s ≡ status.Done) ⊎ ((s ≡ status.No) ⊎ (s ≡ status.NoMemory));
 }

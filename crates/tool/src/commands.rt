@@ -9,7 +9,6 @@ mod checking;
 mod generating;
 mod optimising;
 mod replaying;
-mod reporting;
 pub(crate) mod running;
 mod sequencing;
 mod validating;

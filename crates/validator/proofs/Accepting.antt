@@ -1,17 +1,17 @@
 -- An accepted target has all that runs know of it.
 use Rattle.std.proofs.Common.{◌≡◌, ℕ, Bool, true, false, ◌&&◌, ◌==◌, List, [], ◌∷◌, ◌++◌, length, Some, refl, sym, ap, ◌∙◌, subst, arith, append-nil}
 use Rattle.std.specs.Str.{bytes_eq}
-use Rattle.std.proofs.lemmas.Bool.{false≢true, eqb-true}
+use Rattle.std.proofs.lemmas.Bool.{false≢true, eqb-true, and_parts, false_from_ne_true}
 use Rattle.il_syntax.specs.declared.statement.Atom.{Atom}
 use Rattle.il_syntax.specs.declared.program.Function.{Function}
 use Rattle.il_paths.specs.Tree.{Tree, tree_of, sites_of}
 use Rattle.il_paths.specs.Code.{Visit, Code, placed, first}
 use Rattle.il_paths.specs.Paths.{Before, RunsTo}
-use Rattle.il_paths.proofs.Running.{runs_path, reaches_before}
 use Rattle.flow_facts.specs.declared.level.Kind.TheVariants.{Both}
 use Rattle.flow_facts.specs.declared.level.Level.TheVariants.{Nothing}
-use Rattle.flow_facts.specs.Levels.{level_on, IsLevel, atoms_equal}
-use Rattle.flow_facts.proofs.RowLaws.{atoms_equal-true}
+use Rattle.flow_facts.specs.Levels.{level_on, IsLevel}
+use Rattle.il_paths.specs.Atoms.{atoms_equal}
+use Rattle.il_paths.proofs.Callers.{atoms_equal-true, runs_path, reaches_before}
 use Rattle.validator.specs.Roles.{Role, Same, Turned, Removed, Inserted}
 use Rattle.validator.specs.declared.walk.Part.{Part}
 use Rattle.validator.specs.declared.fault.Fault.{Fault}
@@ -22,15 +22,6 @@ use Rattle.validator.specs.Accepted.{IsTurned, Accepted}
 use Rattle.validator.specs.Faults.{is_turned, FaultAt, begins, same_heads, new_registers, with_heads, FaultOf, Accepts}
 use Rattle.validator.proofs.BesideLaws.{LoadsNew, PairedBy, walk_paired}
 use Rattle.validator.proofs.VisitLaws.{all_runs, all_first, stands_next}
-
-and_parts : (p q : Bool) → (p && q) ≡ true → (p ≡ true) × (q ≡ true)
-and_parts true q e = (refl, e)
-and_parts false q e = absurd (false≢true e)
-
--- where no path says yes
-never : (b : Bool) → (b ≡ true → ⊥) → b ≡ false
-never true h = absurd (h refl)
-never false h = refl
 
 not_turned : (role : Role) → (IsTurned role → ⊥) → is_turned role ≡ false
 not_turned Same h = refl
@@ -81,10 +72,10 @@ module _ (f g : Function) where
         beside = pair.beside parts [] (sym (append-nil parts)) (λ site e. none site V7 e) 0 0 refl;
         inserted_new = λ p k v h x l n i e. all_first (LoadsNew (length g.registers) role) k v n (all_runs (LoadsNew (length g.registers) role) l (pair.loads parts [] (sym (append-nil parts)) 0 refl)) i h x e;
         turned_known = λ p k v x e l n r nothing. none v.site V2 (x, e, r, least_nothing m x e p v.site (comes_to c k p v l n) nothing);
-        load_settled = λ p k v r x l n h turned. never _ (λ e. none v.site V3 (r, x, stands_next m k p v l n ∙ ap Some h, not_turned (role v.site) turned, (p, comes_to c k p v l n, e)));
-        release_settled = λ p k v l n h x. never _ (λ e. none v.site V4 (v.head, x, stands_next m k p v l n, h, (p, comes_to c k p v l n, e)));
-        call_settled = λ p k v r h args l n i x. never _ (λ e. none v.site V5 (r, h, args, x, stands_next m k p v l n ∙ ap Some i, (p, comes_to c k p v l n, e)));
-        end_settled = λ p l x. never _ (λ e. none (sites_of m) V6 (x, refl, (p, runs_path l, e)));
+        load_settled = λ p k v r x l n h turned. false_from_ne_true _ (λ e. none v.site V3 (r, x, stands_next m k p v l n ∙ ap Some h, not_turned (role v.site) turned, (p, comes_to c k p v l n, e)));
+        release_settled = λ p k v l n h x. false_from_ne_true _ (λ e. none v.site V4 (v.head, x, stands_next m k p v l n, h, (p, comes_to c k p v l n, e)));
+        call_settled = λ p k v r h args l n i x. false_from_ne_true _ (λ e. none v.site V5 (r, h, args, x, stands_next m k p v l n ∙ ap Some i, (p, comes_to c k p v l n, e)));
+        end_settled = λ p l x. false_from_ne_true _ (λ e. none (sites_of m) V6 (x, refl, (p, runs_path l, e)));
       }
 
   accepted_heads : (same : Bool) → same_heads f g ≡ same → (o : Outcome) → walk (new_registers f g) (tree_of g.body) (tree_of f.body) [] ≡ o → ((site : ℕ) (why : Fault) → FaultOf g (with_heads same (sites_of (tree_of g.body)) o) site why → ⊥) → Accepted f g

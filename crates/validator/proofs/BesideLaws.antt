@@ -2,14 +2,14 @@
 use Rattle.std.proofs.Common.{◌≡◌, ℕ, ◌+◌, ◌<◌, ◌≤◌, Bool, true, false, cond, leb, ltb, ◌&&◌, List, [], ◌∷◌, ◌++◌, length, Option, Some, None, refl, sym, ap, ◌∙◌, subst, arith, length-append, append_assoc, append-nil}
 use Rattle.std.specs.Prelude.{not}
 use Rattle.std.proofs.Math.Seq.{get_or-append_seam}
-use Rattle.std.proofs.lemmas.Bool.{false≢true, leb-true, ltb-true}
+use Rattle.std.proofs.lemmas.Bool.{false≢true, leb-true, ltb-true, and_parts}
 use Rattle.il_syntax.specs.declared.statement.Atom.{Atom}
 use Rattle.il_syntax.specs.declared.statement.Stmt.TheOpen.{Skip, Copy, Compute, Load, Store, AtomicLoad, AtomicStore, Update, Fence, Print, If, While, Call}
 use Rattle.il_syntax.specs.Statements.{Head}
 use Rattle.il_paths.specs.Tree.{Leaf, head_of_leaf, Tree, Empty, Then, IfThen, WhileThen, sites_of}
 use Rattle.il_paths.specs.Code.{Visit, placed}
-use Rattle.flow_facts.specs.Levels.{atoms_equal}
-use Rattle.flow_facts.proofs.RowLaws.{atoms_equal-true}
+use Rattle.il_paths.specs.Atoms.{atoms_equal}
+use Rattle.il_paths.proofs.Callers.{atoms_equal-true}
 use Rattle.validator.specs.Roles.{Role, Same, Turned, Removed, Inserted}
 use Rattle.validator.specs.declared.walk.NewRegisters.{NewRegisters}
 use Rattle.validator.specs.declared.walk.Part.{Part}
@@ -64,10 +64,6 @@ followed : (parts : List Part) (n : ℕ) (b : Bool) → NoneStray parts → (par
 followed parts n true f e = refl
 followed parts n false f e = absurd (f n e)
 
-and_parts : (p q : Bool) → (p && q) ≡ true → (p ≡ true) × (q ≡ true)
-and_parts true q e = (refl, e)
-and_parts false q e = absurd (false≢true e)
-
 -- a role that isn't that of an inserted load
 is_insertion : Role → Bool
 is_insertion Inserted = true
@@ -81,7 +77,7 @@ turned_inserted : (x : ℕ) (a : Atom) → Turned x a ≡ Inserted → ⊥
 unfolding is_insertion
 turned_inserted x a e = false≢true (ap is_insertion e)
 
-removed_inserted : (x : ℕ) (a : Atom) → Removed x a ≡ Inserted → ⊥
+pub removed_inserted : (x : ℕ) (a : Atom) → Removed x a ≡ Inserted → ⊥
 unfolding is_insertion
 removed_inserted x a e = false≢true (ap is_insertion e)
 
@@ -90,7 +86,7 @@ register : Head → ℕ
 register (Load r x) = r
 register _ = 0
 
-load_register : (r x h y : ℕ) → ◌≡◌ {A = Head} (Load r x) (Load h y) → r ≡ h
+pub load_register : (r x h y : ℕ) → ◌≡◌ {A = Head} (Load r x) (Load h y) → r ≡ h
 unfolding register
 load_register r x h y e = ap register e
 

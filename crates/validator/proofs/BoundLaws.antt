@@ -4,7 +4,7 @@ use Rattle.il_syntax.specs.declared.statement.Atom.{Atom}
 use Rattle.il_syntax.specs.Statements.{Head}
 use Rattle.il_paths.specs.Tree.{head_of_leaf, Tree, Empty, Then, IfThen, WhileThen, sites_of}
 use Rattle.validator.specs.Roles.{Role, Same}
-use Rattle.flow_facts.specs.Levels.{atoms_equal}
+use Rattle.il_paths.specs.Atoms.{atoms_equal}
 use Rattle.validator.specs.declared.walk.NewRegisters.{NewRegisters}
 use Rattle.validator.specs.declared.walk.Part.{Part}
 use Rattle.validator.specs.Walk.{is_inserted, before_loop, with_partner, inserted_part, role_of, Outcome, Apart, Together, and_then, with_role, plain_step, branch_step, loop_step, at_end, walk}

@@ -14,7 +14,7 @@ use Rattle.flow_facts.specs.declared.level.Level.{Level}
 use Rattle.flow_facts.specs.declared.level.Level.TheVariants.{Nothing, Held, Fresh}
 use Rattle.flow_facts.specs.declared.known.Known.{Known}
 use Rattle.flow_facts.specs.Levels.{rank_of, IsLevel}
-use Rattle.flow_facts.specs.Rows.{IsTable}
+use Rattle.flow_facts.specs.Rows.{level_at}
 use Rattle.location_sets.specs.Sets.{has}
 use Rattle.validator.specs.Roles.{Role, Same, Turned, Removed, Inserted}
 use Rattle.validator.specs.declared.walk.Part.{Part}
@@ -29,19 +29,9 @@ use Rattle.validator.specs.Walk.{part_at, role_at, with_partner}
 use Rattle.validator.specs.Pending.{set_at, ArePending, is_none}
 use Rattle.validator.specs.Faults.{is_turned, number, FaultAt, IsJudgedBy}
 use Rattle.validator.specs.Told.{release_need, need_of, needs_of, need_at, is_nothing, unknown_at, unsettled_at, unfollowed, or_else, fault_at, IsTold}
-use Rattle.validator.proofs.NeedLaws.{need_is, head_at, site_of_head}
-
--- there is one least level
-same_rank : (m n : Level) → rank_of m ≡ rank_of n → m ≡ n
-same_rank Nothing Nothing e = refl
-same_rank Held Held e = refl
-same_rank Fresh Fresh e = refl
-same_rank Nothing Held e = absurd (omega (arith, e))
-same_rank Nothing Fresh e = absurd (omega (arith, e))
-same_rank Held Nothing e = absurd (omega (arith, e))
-same_rank Held Fresh e = absurd (omega (arith, e))
-same_rank Fresh Nothing e = absurd (omega (arith, e))
-same_rank Fresh Held e = absurd (omega (arith, e))
+use Rattle.validator.proofs.NeedLaws.{need_is, head_at}
+use Rattle.il_paths.proofs.Callers.{site_within}
+use Rattle.flow_facts.proofs.Callers.{rank_injective}
 
 one_level : (c : Code) (site x : ℕ) (a : Atom) (m n : Level) → IsLevel c site Both x a m → IsLevel c site Both x a n → m ≡ n
 one_level c site x a m n f g =
@@ -49,7 +39,7 @@ one_level c site x a m n f g =
     let q = g.below f.reached.0 f.reached.1 in
     let r = ap rank_of f.reached.2 in
     let s = ap rank_of g.reached.2 in
-    same_rank m n (omega arith)
+    rank_injective m n (omega arith)
 
 is_nothing-true : (l : Level) → is_nothing l ≡ true → l ≡ Nothing
 is_nothing-true Nothing e = refl
@@ -103,7 +93,7 @@ past [] s h = refl
 past (r ∷ rs) zero h = absurd (omega (arith, h))
 past (r ∷ rs) (suc s) h = past rs s (omega (arith, h))
 
-same_turned : (x : ℕ) (a : Atom) → Same ≡ Turned x a → ⊥
+pub same_turned : (x : ℕ) (a : Atom) → Same ≡ Turned x a → ⊥
 same_turned x a e = false≢true (ap is_turned e)
 
 -- a release's need, and the release of such a need
@@ -148,7 +138,11 @@ needs (If a _ _) = tt
 needs (While a _) = tt
 needs (Call r f args) = (r, f, args, refl)
 
-module _ (merged : Tree) (parts : List Part) (table : List (List Known)) (pending : Pending) (is_table : IsTable merged Both table) (are_pending : ArePending merged (role_at parts) pending) where
+-- the table has the level of each turned load
+abbrev pub TellsTurned : Tree → List Part → List (List Known) → Type 0
+TellsTurned merged parts table = (site x : ℕ) (a : Atom) → role_at parts site ≡ Turned x a → site < sites_of merged → IsLevel (placed 0 merged) site Both x a (level_at table site x a)
+
+module _ (merged : Tree) (parts : List Part) (table : List (List Known)) (pending : Pending) (tells : TellsTurned merged parts table) (are_pending : ArePending merged (role_at parts) pending) where
   abbrev set : ℕ → List ℕ
   set site = set_at pending.before site
 
@@ -165,7 +159,7 @@ module _ (merged : Tree) (parts : List Part) (table : List (List Known)) (pendin
   fault_told : (site : ℕ) → site < sites_of merged → (w : Fault) → FaultAt merged parts site w → AtMostTold (told site) w
   fault_told site h V1 k = absurd k
   fault_told site h V2 k =
-      let level = one_level (placed 0 merged) site k.0 k.1 _ Nothing (is_table site k.0 k.1 h) k.3 in
+      let level = one_level (placed 0 merged) site k.0 k.1 _ Nothing (tells site k.0 k.1 k.2 h) k.3 in
       told_unknown (unknown_at table (role_at parts site) site) _ (ap (λ (r : Role). unknown_at table r site) k.2 ∙ ap is_nothing level)
   fault_told site h V3 k =
       let p = (are_pending.before site k.1 h).1 k.4 in
@@ -181,7 +175,7 @@ module _ (merged : Tree) (parts : List Part) (table : List (List Known)) (pendin
       told_unfollowed (unknown_at table (role_at parts site) site) (unsettled_at (set site) (role_at parts site) (need_at (needs_of merged) site)) (unfollowed (part_at parts site).stray) (ap unfollowed k)
 
   unknown_sound : (site : ℕ) → site < sites_of merged → (role : Role) → role_at parts site ≡ role → unknown_at table role site ≡ true → FaultAt merged parts site V2
-  unknown_sound site h (Turned x a) r e = (x, a, r, subst (IsLevel (placed 0 merged) site Both x a) (is_nothing-true _ e) (is_table site x a h))
+  unknown_sound site h (Turned x a) r e = (x, a, r, subst (IsLevel (placed 0 merged) site Both x a) (is_nothing-true _ e) (tells site x a r h))
   unknown_sound site h Same r e = absurd (false≢true e)
   unknown_sound site h (Removed x a) r e = absurd (false≢true e)
   unknown_sound site h Inserted r e = absurd (false≢true e)
@@ -228,9 +222,9 @@ module _ (merged : Tree) (parts : List Part) (table : List (List Known)) (pendin
   within : (long : length parts ≡ sites_of merged) (s : ℕ) (w : Fault) → FaultAt merged parts s w → (s < sites_of merged) ⊎ ((s ≡ sites_of merged) × (w ≡ V6))
   within long s V1 k = absurd k
   within long s V2 k = ⊎_elim (λ h. inl h) (λ h. let e = sym (ap (λ (p : Part). p.role) (past parts s (omega (arith, h, long)))) ∙ k.2 in absurd (same_turned k.0 k.1 e)) (cases_lt s (sites_of merged))
-  within long s V3 k = inl (site_of_head merged s (Load k.0 k.1) k.2)
-  within long s V4 k = inl (site_of_head merged s k.0 k.2)
-  within long s V5 k = inl (site_of_head merged s (Call k.0 k.1 k.2) k.4)
+  within long s V3 k = inl (site_within merged s (Load k.0 k.1) k.2)
+  within long s V4 k = inl (site_within merged s k.0 k.2)
+  within long s V5 k = inl (site_within merged s (Call k.0 k.1 k.2) k.4)
   within long s V6 k = inr (k.1, refl)
   within long s V7 k = ⊎_elim (λ h. inl h) (λ h. let e = sym (ap (λ (p : Part). p.stray) (past parts s (omega (arith, h, long)))) ∙ k in absurd (false≢true e)) (cases_lt s (sites_of merged))
 

@@ -1,13 +1,15 @@
-pub mod HeadLaws
-pub mod BoundLaws
-pub mod WalkLaws
-pub mod MergedLaws
-pub mod VisitLaws
-pub mod BesideLaws
-pub mod PendingLaws
-pub mod NeedLaws
-pub mod FaultLaws
-pub mod Accepting
+mod HeadLaws
+mod BoundLaws
+mod WalkLaws
+mod MergedLaws
+mod VisitLaws
+mod BesideLaws
+mod PendingLaws
+mod NeedLaws
+mod FaultLaws
+mod FirstFaults
+mod Accepting
 pub mod Callers
-pub mod ShapeLaws
-pub mod JudgeLaws
+mod ShapeLaws
+mod JudgeLaws
+mod EachJudged

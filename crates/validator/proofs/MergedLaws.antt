@@ -3,6 +3,8 @@ use Rattle.std.proofs.Common.{◌≡◌, ℕ, ◌+◌, List, refl, sym, ap, ◌�
 use Rattle.il_syntax.specs.declared.statement.Stmt.TheOpen.{Skip, Copy, Compute, Load, Store, AtomicLoad, AtomicStore, Update, Fence, Print, If, While, Call}
 use Rattle.il_syntax.specs.Statements.{Head}
 use Rattle.il_paths.specs.Tree.{Leaf, head_of_leaf, Tree, Empty, Then, IfThen, WhileThen, sites_of}
+use Rattle.rewriting.specs.Kinds.{unchanged}
+use Rattle.rewriting.proofs.Callers.{each_rewritten}
 use Rattle.validator.specs.Roles.{Role, Same}
 use Rattle.validator.specs.declared.walk.Part.{Part}
 use Rattle.validator.specs.Merged.{restored_skip, restored_copy, restored_leaf, restored}
@@ -28,19 +30,9 @@ head_restored role (While a body) = absurd body
 head_restored role (Call r function args) = refl
 
 pub same_kept : (leaf : Leaf) → head_of_leaf (restored_leaf Same leaf) ≡ head_of_leaf leaf
-same_kept Skip = refl
-same_kept (Copy r a) = refl
-same_kept (Compute r op a b) = refl
-same_kept (Load r x) = refl
-same_kept (Store x a) = refl
-same_kept (AtomicLoad r order y) = refl
-same_kept (AtomicStore order y a) = refl
-same_kept (Update r order y kind) = refl
-same_kept (Fence order) = refl
-same_kept (Print a) = refl
-same_kept (If a yes_block no_block) = absurd yes_block
-same_kept (While a body) = absurd body
-same_kept (Call r function args) = refl
+same_kept =
+    each_rewritten (λ leaf new. head_of_leaf new ≡ head_of_leaf leaf) (record unchanged { skip = restored_skip Same; copy = restored_copy Same })
+    (record { skip = refl; copy = λ r a. refl; compute = λ r op a b. refl; load = λ r x. refl; store = λ x a. refl; other = λ leaf. refl })
 
 pub load_kept : (role : Role) (leaf : Leaf) (r x : ℕ) → head_of_leaf leaf ≡ Load r x → head_of_leaf (restored_leaf role leaf) ≡ head_of_leaf leaf
 load_kept role leaf r x e = head_restored role leaf ∙ ap (restored_head role) e ∙ sym e

@@ -4,8 +4,7 @@ use Rattle.std.proofs.lemmas.Option.{none-some, same_Some}
 use Rattle.il_syntax.specs.declared.statement.Stmt.{Stmt}
 use Rattle.il_syntax.specs.Statements.{Head}
 use Rattle.il_paths.specs.Tree.{Tree, Empty, before_rest, tree_of_all, heads_in, sites_of}
-use Rattle.il_paths.proofs.Trees.{Shape, plain_shape, if_shape, while_shape, shape_of, tree_of-drop}
-use Rattle.il_paths.proofs.HeadsInOrder.{length-heads_in}
+use Rattle.il_paths.proofs.Callers.{Shape, plain_shape, if_shape, while_shape, shape_of, tree_of-drop, length-heads_in, site_within}
 use Rattle.validator.specs.declared.told.Need.{Need}
 use Rattle.validator.specs.Told.{need_of, needs_of, need_at}
 
@@ -47,14 +46,3 @@ head_there (x ∷ xs) (suc site) k = head_there xs site (omega (arith, k))
 -- each site has a statement
 pub head_at : (t : Tree) (site : ℕ) → site < sites_of t → (h : Head) × (slice_get (heads_in t) site ≡ Some h)
 head_at t site k = head_there (heads_in t) site (omega (arith, k, length-heads_in t))
-
-pub site_of_head : (t : Tree) (site : ℕ) (h : Head) → slice_get (heads_in t) site ≡ Some h → site < sites_of t
-site_of_head t site h e = go (heads_in t) site e (length-heads_in t)
-  where
-    within : (xs : List Head) (site : ℕ) → slice_get xs site ≡ Some h → site < length xs
-    within [] site k = absurd (none-some h k)
-    within (x ∷ xs) zero k = omega arith
-    within (x ∷ xs) (suc site) k = omega (arith, within xs site k)
-
-    go : (xs : List Head) (site : ℕ) → slice_get xs site ≡ Some h → length xs ≡ sites_of t → site < sites_of t
-    go xs site k l = omega (arith, within xs site k, l)

@@ -13,15 +13,13 @@ use Rattle.il_paths.specs.Code.{Visit, placed}
 use Rattle.il_paths.specs.Meets.{IsMeetBefore, IsMeetThrough}
 use Rattle.path_meets.specs.Chain.{may_rank}
 use Rattle.path_meets.specs.Walks.{meet}
-use Rattle.path_meets.proofs.Tabled.{table_least}
-use Rattle.path_meets.proofs.ExitLaws.{exit_is_least}
-use Rattle.path_meets.proofs.YesNo.{some_path_before, some_path_through}
+use Rattle.path_meets.proofs.Callers.{table_least, exit_is_least, some_path_before, some_path_through}
 use Rattle.location_sets.specs.Sets.{has, column}
 use Rattle.validator.specs.Roles.{Role, Same, Turned, Removed, Inserted, pending_after_head, pending_after_role, pending_step}
 use Rattle.validator.specs.declared.pending.Pending.{Pending}
 use Rattle.validator.specs.Pending.{pending_after, pending_within, set_at, ArePending}
 
-may_bounded : (a : Bool) → may_rank a ≤ 1
+pub may_bounded : (a : Bool) → may_rank a ≤ 1
 may_bounded true = omega arith
 may_bounded false = omega arith
 

@@ -6,8 +6,7 @@ use Rattle.il_syntax.specs.Statements.{Head}
 use Rattle.il_paths.specs.Tree.{head_of_leaf, Tree, Empty, Then, IfThen, WhileThen, sites_of, heads_in}
 use Rattle.il_paths.specs.Code.{Visit, Code, End, Plain, Branch, Loop, placed, join, first}
 use Rattle.il_paths.specs.Paths.{IsPath, RunsTo, here, on, into_yes_block, into_no_block, around, out}
-use Rattle.il_paths.proofs.Running.{path_runs, runs_halves, runs_first}
-use Rattle.il_paths.proofs.HeadsInOrder.{length-heads_in}
+use Rattle.il_paths.proofs.Callers.{path_runs, runs_halves, runs_first, length-heads_in}
 
 -- each statement of the code
 abbrev pub AllVisits : (Visit → Type 0) → Code → Type 0

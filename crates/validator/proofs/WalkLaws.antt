@@ -2,34 +2,16 @@
 use Rattle.std.proofs.Common.{◌≡◌, ℕ, ◌+◌, ◌<◌, ◌≤◌, Bool, true, false, cond, ◌&&◌, List, [], ◌∷◌, ◌++◌, length, get_or, drop, nat_eq, refl, sym, ap, ◌∙◌, arith}
 use Rattle.std.proofs.lemmas.Bool.{false≢true, ne_eqb, eq-eqb}
 use Rattle.std.proofs.lemmas.List.{length-drop}
-use Rattle.il_syntax.specs.declared.statement.Atom.{Atom}
 use Rattle.il_syntax.specs.declared.statement.Stmt.{Stmt, out-Stmt, map-Stmt}
 use Rattle.il_syntax.specs.declared.statement.Stmt.TheOpen.{Stmt-F, Skip, Copy, Compute, Load, Store, AtomicLoad, AtomicStore, Update, Fence, Print, If, While, Call}
 use Rattle.il_syntax.specs.declared.statement.Block.{Block}
 use Rattle.il_syntax.specs.Statements.{Head, head_of}
 use Rattle.il_paths.specs.Tree.{Tree, Empty, statement_step, before_rest, tree_of_all}
-use Rattle.il_paths.proofs.Trees.{layer, before_rest-out, tree_of-drop}
-use Rattle.flow_facts.specs.Levels.{atoms_equal}
-use Rattle.flow_facts.proofs.RowLaws.{items-at}
-use Rattle.validator.specs.Heads.{same_atoms}
+use Rattle.il_paths.proofs.Callers.{layer, before_rest-out, tree_of-drop}
 use Rattle.validator.specs.declared.walk.NewRegisters.{NewRegisters}
 use Rattle.validator.specs.declared.walk.Part.{Part}
 use Rattle.validator.specs.Walk.{is_inserted, before_loop, inserted_part, Apart, and_then, at_end, plain_step, walk}
 use Rattle.validator.specs.Walked.{is_loop, came_to}
-
--- lists of atoms
-pub and_false : (p q : Bool) → q ≡ false → false ≡ (p && q)
-and_false true q e = sym e
-and_false false q e = refl
-
-pub same_atoms-length : (xs ys : List Atom) → (length xs ≡ length ys → ⊥) → false ≡ same_atoms xs ys
-same_atoms-length [] [] h = absurd (h refl)
-same_atoms-length [] (b ∷ bs) h = refl
-same_atoms-length (a ∷ xs) [] h = refl
-same_atoms-length (a ∷ xs) (b ∷ ys) h = and_false (atoms_equal a b) (same_atoms xs ys) (sym (same_atoms-length xs ys (λ e. h (omega (arith, e)))))
-
-pub same_atoms-drop : (xs ys : List Atom) (i : ℕ) (d : Atom) → i < length xs → length xs ≡ length ys → same_atoms (drop i xs) (drop i ys) ≡ (atoms_equal (get_or xs i d) (get_or ys i d) && same_atoms (drop (i + 1) xs) (drop (i + 1) ys))
-same_atoms-drop xs ys i d h e = (λ j. same_atoms (items-at xs i d h j) (items-at ys i d (omega (arith, h, e)) j))
 
 -- one layer without its blocks
 abbrev bare : Stmt-F Stmt Block → Head

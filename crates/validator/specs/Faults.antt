@@ -11,7 +11,8 @@ use Rattle.il_paths.specs.Heads.{is_release}
 use Rattle.il_paths.specs.Paths.{IsPath, Before}
 use Rattle.flow_facts.specs.declared.level.Kind.TheVariants.{Both}
 use Rattle.flow_facts.specs.declared.level.Level.TheVariants.{Nothing}
-use Rattle.flow_facts.specs.Levels.{atoms_equal, IsLevel}
+use Rattle.flow_facts.specs.Levels.{IsLevel}
+use Rattle.il_paths.specs.Atoms.{atoms_equal}
 use Rattle.validator.specs.declared.fault.Fault.{Fault}
 use Rattle.validator.specs.declared.fault.Fault.TheVariants.{V1, V2, V3, V4, V5, V6, V7}
 use Rattle.validator.specs.declared.fault.Judged.{Judged}

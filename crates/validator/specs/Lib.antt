@@ -1,11 +1,11 @@
 pub mod Roles
 pub mod Beside
 pub mod Accepted
-pub mod Heads
 pub mod Walk
 pub mod Walked
 pub mod Merged
 pub mod Faults
+pub mod Programs
 pub mod Pending
 pub mod Told
 pub mod Laws

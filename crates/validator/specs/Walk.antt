@@ -4,11 +4,11 @@ use Rattle.il_syntax.specs.declared.statement.Atom.{Atom}
 use Rattle.il_syntax.specs.declared.statement.Stmt.TheOpen.{Skip, Copy, Load, Store}
 use Rattle.il_syntax.specs.Statements.{Head}
 use Rattle.il_paths.specs.Tree.{head_of_leaf, Tree, Empty, Then, IfThen, WhileThen}
-use Rattle.flow_facts.specs.Levels.{atoms_equal}
+use Rattle.il_paths.specs.Atoms.{atoms_equal}
 use Rattle.validator.specs.Roles.{Role, Same, Turned, Removed, Inserted}
 use Rattle.validator.specs.declared.walk.NewRegisters.{NewRegisters}
 use Rattle.validator.specs.declared.walk.Part.{Part}
-use Rattle.validator.specs.Heads.{same_head}
+use Rattle.rewriting.specs.Heads.{same_head}
 
 -- a register that the target has and the source lacks
 abbrev pub is_new : NewRegisters → ℕ → Bool

@@ -17,7 +17,7 @@ use location_sets::has;
 use std::alloc::AllocError;
 
 /// What a statement must find settled: nothing, one location, or all of them.
-#[derive(Clone, Copy, Debug)]
+#[derive(Clone, Copy)]
 pub enum Need {
     Nothing,
     Value { x: u32 },

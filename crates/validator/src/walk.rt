@@ -5,13 +5,13 @@ ghost use Rattle.il_paths.specs.Tree.{Tree, Empty, IfThen, WhileThen, tree_of, b
 ghost use Rattle.validator.specs.Walk as beside;
 ghost use Rattle.validator.specs.Walked.{came_to, is_loop, is_plain};
 
-use crate::heads::same_head;
 use crate::role::Role;
 use il_syntax::{Atom, Block, Stmt};
+use rewriting::same_head;
 use std::alloc::AllocError;
 
 /// The registers that the target has and the source lacks: from the first up to the end, which is none.
-#[derive(Clone, Copy, Debug)]
+#[derive(Clone, Copy)]
 pub struct NewRegisters {
     pub first: usize,
     pub end: usize,
@@ -19,7 +19,7 @@ pub struct NewRegisters {
 
 /// What the walk finds of a statement: its role, and whether it is an inserted load that no `while`
 /// follows.
-#[derive(Clone, Copy, Debug)]
+#[derive(Clone, Copy)]
 pub struct Part {
     pub role: Role,
     pub stray: bool,

@@ -1,12 +1,13 @@
-pub mod Mapped
-pub mod Propers
-pub mod RunLaws
-pub mod Reached
-pub mod Opened
-pub mod Merging
-pub mod Versions
-pub mod NoFences
-pub mod OneViewRuns
-pub mod Counting
-pub mod Asking
+mod Mapped
+mod Propers
+mod RunLaws
+mod Ends
+mod Reached
+mod Opened
+mod Merging
+mod Versions
+mod NoFences
+mod OneViewRuns
+mod Counting
+mod Asking
 pub mod Callers

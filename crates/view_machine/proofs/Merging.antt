@@ -25,6 +25,7 @@ use Rattle.view_machine.specs.Runs.{is_spend, after_silent, AreSilent, MakesAcce
 use Rattle.view_machine.specs.Laws.{MakesCallBy, Follows, FollowsThread, IsHistoryOf}
 use Rattle.view_machine.proofs.Reached.{initial_memories}
 use Rattle.view_machine.specs.Merged.{seen_in, MergedHistoriesLead, MergedHistoriesAsk}
+use Rattle.message_memory.proofs.Callers.{other_first}
 
 -- ---- one thread's silent steps
 
@@ -84,9 +85,6 @@ silent_steps_local p i n s g h = let r = runs_silent p i n s g h in (r.silent, r
 pub own_calls : (c : Call) (calls : List Call) → calls_by c.thread (c ∷ calls) ≡ c ∷ calls_by c.thread calls
 own_calls c calls = cond-true (eqb c.thread c.thread) _ _ (eq-eqb c.thread c.thread refl)
 
-pub other_calls : (c : Call) (calls : List Call) (j : ℕ) → (c.thread ≡ j → ⊥) → calls_by j (c ∷ calls) ≡ calls_by j calls
-other_calls c calls j n = cond-false (eqb c.thread j) _ _ (ne_eqb c.thread j n)
-
 abbrev pub HasMore : List Call → Type 0
 HasMore [] = ⊥
 HasMore (c ∷ calls) = Unit {0}
@@ -133,12 +131,12 @@ does p s c calls l r g true b asks rest =
         views = r.views ∙ sym n;
         going = λ j h more. elim (cases_eq c.thread j) [
           | inl e ↦ absurd (none_left (calls_by c.thread calls) asks.2 (subst (λ (k : ℕ). HasMore (calls_by k calls)) (sym e) more))
-          | inr ne ↦ get_or-set_other s.ended i j true true (λ e. ne (sym e)) ∙ r.going j (omega (arith, n, h)) (subst HasMore (sym (other_calls c calls j ne)) more)
+          | inr ne ↦ get_or-set_other s.ended i j true true (λ e. ne (sym e)) ∙ r.going j (omega (arith, n, h)) (subst HasMore (sym (other_first c calls j ne)) more)
         ];
         follows = λ j h. elim (cases_eq c.thread j) [
           | inl e ↦ subst (λ (k : ℕ). Follows p (local_in u j) (calls_by k calls)) e (subst (Follows p (local_in u j)) (sym asks.2) tt)
           | inr ne ↦ subst (λ (x : Stack). Follows p x (calls_by j calls)) (sym (get_or-set_other s.locals i j l idle (λ e. ne (sym e))))
-              (subst (Follows p (local_in s j)) (other_calls c calls j ne) (r.follows j (omega (arith, n, h))))
+              (subst (Follows p (local_in s j)) (other_first c calls j ne) (r.follows j (omega (arith, n, h))))
         ];
         memory = subst (λ (x : MemoryState). IsHistoryFrom x calls) kept r.memory.1;
       });
@@ -171,7 +169,7 @@ does p s c calls l r g false b asks rest =
           | inl e ↦ subst (λ (k : ℕ). has_ended u k ≡ false) e
               (get_or-set_same s.ended i (is_finish o.event) true (omega (arith, g.there, r.notes)) ∙ ap is_finish same
               ∙ unfinished c (calls_by c.thread calls) asks.1 (subst (λ (k : ℕ). HasMore (calls_by k calls)) (sym e) more))
-          | inr ne ↦ get_or-set_other s.ended i j (is_finish o.event) true (λ e. ne (sym e)) ∙ r.going j (omega (arith, n, n2, h)) (subst HasMore (sym (other_calls c calls j ne)) more)
+          | inr ne ↦ get_or-set_other s.ended i j (is_finish o.event) true (λ e. ne (sym e)) ∙ r.going j (omega (arith, n, n2, h)) (subst HasMore (sym (other_first c calls j ne)) more)
         ];
         follows = λ j h. elim (cases_eq c.thread j) [
           | inl e ↦ subst (λ (k : ℕ). Follows p (local_in u k) (calls_by k calls)) e
@@ -179,7 +177,7 @@ does p s c calls l r g false b asks rest =
               (sym (get_or-set_same (set s.locals i l) i (local_after_event (local_in t i) o.event) idle (omega (arith, n, g.there)) ∙ (λ k. local_after_event (here k) (same k)))) rest)
           | inr ne ↦ subst (λ (x : Stack). Follows p x (calls_by j calls))
               (sym (get_or-set_other (set s.locals i l) i j (local_after_event (local_in t i) o.event) idle (λ e. ne (sym e)) ∙ get_or-set_other s.locals i j l idle (λ e. ne (sym e))))
-              (subst (Follows p (local_in s j)) (other_calls c calls j ne) (r.follows j (omega (arith, n, n2, h))))
+              (subst (Follows p (local_in s j)) (other_first c calls j ne) (r.follows j (omega (arith, n, n2, h))))
         ];
         memory = r.memory.1;
       });

@@ -14,15 +14,14 @@ use Rattle.il_syntax.specs.WellFormed.{each_statement}
 use Rattle.il_syntax.specs.Fences.{is_no_fence, has_no_fence}
 use Rattle.il_paths.specs.Tree.{tree_of}
 use Rattle.il_paths.specs.Code.{placed, first_head, AllHeads, AllCode}
-use Rattle.il_paths.proofs.Resuming.{all_placed, all_first}
-use Rattle.il_paths.proofs.HeadsInOrder.{heads_agree, all_heads_of}
+use Rattle.il_paths.proofs.Callers.{all_placed, all_first, heads_agree, all_heads_of}
 use Rattle.message_memory.specs.OneViewLaws.{is_fence}
 use Rattle.thread_core.specs.declared.next.Next.{Next}
 use Rattle.thread_core.specs.declared.next.Next.TheVariants as next
 use Rattle.thread_core.specs.Programs.{function_at, code_of, body_in}
 use Rattle.thread_core.specs.Frames.{Frame, Stack, evaluated, decided, computed, next_print, ended, next_at, next_after, next_of}
-use Rattle.thread_core.proofs.EachHead.{HasEach}
-use Rattle.thread_core.proofs.Placing.{all_got}
+use Rattle.thread_core.proofs.Callers.{HasEach}
+use Rattle.values_undef.proofs.Callers.{all_got}
 
 -- the statement is no fence
 abbrev pub IsNoFence : Head → Type 0

@@ -3,6 +3,7 @@ use Rattle.std.proofs.Common.{◌≡◌, ℕ, zero, suc, ◌+◌, ◌<◌, Bool,
 use Rattle.std.proofs.lemmas.List.{length-map, length-replicate, length-set}
 use Rattle.std.specs.Prelude.{◌||◌}
 use Rattle.std.specs.List.{AllByRecursion}
+use Rattle.values_undef.proofs.Callers.{all_get, all_set, all_images}
 use Rattle.values_undef.specs.Access.{choice_of_event, is_failure, ends_thread}
 use Rattle.values_undef.specs.Journal.{is_finish}
 use Rattle.values_undef.specs.declared.access.Choice.{Choice}
@@ -16,33 +17,18 @@ use Rattle.views.specs.ThreadView.{zero_view}
 use Rattle.message_memory.specs.Memory.{IsClosedView}
 use Rattle.message_memory.specs.Step.{step_result, MemStep}
 use Rattle.message_memory.specs.History.{MemoryState, IsWellFormedState, initial_memory_state as initial}
-use Rattle.message_memory.proofs.HistoryLemmas.{well_formed_after, all_at, initial_state_well_formed}
-use Rattle.message_memory.proofs.StepLaws.{keep_locations}
+use Rattle.message_memory.proofs.Callers.{well_formed_after, all_at, initial_state_well_formed, keep_locations}
 use Rattle.thread_core.specs.declared.next.Next.{Next}
 use Rattle.thread_core.specs.declared.next.Next.TheVariants as next
 use Rattle.thread_core.specs.Programs.{IsProperProgram, IsProperNext}
 use Rattle.thread_core.specs.Frames.{Stack, advanced, resumed}
 use Rattle.thread_core.specs.Steps.{IsProperStack}
-use Rattle.thread_core.proofs.Keeping.{advanced_proper, resumed_proper, begun_proper, next_proper}
+use Rattle.thread_core.proofs.Callers.{advanced_proper, resumed_proper, begun_proper, next_proper}
 use Rattle.values_undef.specs.declared.journal.Entry.{Entry}
 use Rattle.view_machine.specs.State.{State, local_in, view_in, next_in, idle, Allows, IsStep, local_after_event, step_by, after_step, start_of, declared_values, initial_state}
 use Rattle.view_machine.specs.Runs.{is_spend, after_silent, AreSilent, MakesEventBy, MakesEvent, after_event_by, after_event, after_entry, IsRunFrom, state_after, IsRunTo}
 use Rattle.view_machine.specs.Laws.{IsReached}
 use Rattle.view_machine.proofs.Propers.{proper_in}
-
-all_set : {X : Type 0} (P : X → Type 0) (xs : List X) (i : ℕ) (x : X) → P x → AllByRecursion P xs → AllByRecursion P (set xs i x)
-all_set P [] i x q h = tt
-all_set P (y ∷ ys) zero x q h = (q, h.1)
-all_set P (y ∷ ys) (suc i) x q h = (h.0, all_set P ys i x q h.1)
-
-pub all_get : {X : Type 0} (P : X → Type 0) (xs : List X) (i : ℕ) (d : X) → i < length xs → AllByRecursion P xs → P (get_or xs i d)
-all_get P [] i d l h = absurd (omega arith)
-all_get P (y ∷ ys) zero d l h = h.0
-all_get P (y ∷ ys) (suc i) d l h = all_get P ys i d (omega arith) h.1
-
-all_map : {X Y : Type 0} (P : Y → Type 0) (f : X → Y) (xs : List X) → ((x : X) → P (f x)) → AllByRecursion P (map f xs)
-all_map P f [] q = tt
-all_map P f (x ∷ xs) q = (q x, all_map P f xs q)
 
 stays_or_resumes : (p : Program) (l : Stack) (e : Event) (b : Bool) → IsProperStack p l → IsProperStack p (cond b l (resumed l e))
 stays_or_resumes p l e true h = h
@@ -130,7 +116,7 @@ initial_reached p ok =
       atomic = length-map (declared_values p.atomic) _ ∙ length_values p.atomic;
       views = length-replicate (length p.threads) _ ∙ sym n;
       ended = length-replicate (length p.threads) _ ∙ sym n;
-      stacks = all_map (IsProperStack p) (start_of p) p.threads (λ (start : Start). begun_proper p start.function (map Def start.args) ok);
+      stacks = all_images (IsProperStack p) (start_of p) p.threads (λ (start : Start). begun_proper p start.function (map Def start.args) ok);
       well_formed = subst IsWellFormedState (initial_memories p) (initial_state_well_formed (declared_values p.na) (declared_values p.atomic) (length p.threads));
     }
 

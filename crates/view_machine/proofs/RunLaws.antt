@@ -12,7 +12,7 @@ use Rattle.values_undef.specs.declared.journal.Entry.{Entry}
 use Rattle.il_syntax.specs.declared.program.Program.{Program}
 use Rattle.message_memory.specs.Memory.{Memory}
 use Rattle.message_memory.specs.Step.{step_result, MemStep}
-use Rattle.message_memory.proofs.StepLaws.{failures_fail, outputs_grow}
+use Rattle.message_memory.proofs.Callers.{failures_fail, outputs_grow}
 use Rattle.thread_core.specs.declared.next.Next.{Next}
 use Rattle.thread_core.specs.declared.next.Next.TheVariants as next
 use Rattle.view_machine.specs.declared.stepped.Stepped.TheVariants as stepped

@@ -2,20 +2,19 @@
 -- the step leaves (`after_step`).
 use Rattle.std.specs.Prelude.{◌≡◌, ℕ, ◌+◌, ◌<◌, Bool, true, false, List, [], length, map, replicate, slice_index_or, slice_set}
 use Rattle.values_undef.specs.Journal.{is_finish}
-use Rattle.values_undef.specs.declared.value.Val.TheVariants.{Def}
 use Rattle.values_undef.specs.declared.access.Choice.{Choice}
 use Rattle.values_undef.specs.declared.access.Choice.TheVariants as choice
 use Rattle.values_undef.specs.declared.access.Event.{Event}
 use Rattle.values_undef.specs.declared.access.Access.TheVariants as access
 use Rattle.il_syntax.specs.declared.program.Program.{Program}
-use Rattle.il_syntax.specs.declared.program.Start.{Start}
 use Rattle.il_paths.specs.Code.{End}
 use Rattle.views.specs.ThreadView.{ThreadView, no_view, zero_view}
 use Rattle.message_memory.specs.Memory.{Memory, initial_memory}
 use Rattle.message_memory.specs.Step.{IsLegal, step_result}
 use Rattle.thread_core.specs.declared.next.Next.{Next}
 use Rattle.thread_core.specs.declared.next.Next.TheVariants as next
-use Rattle.thread_core.specs.Frames.{Stack, next_of, advanced, begun}
+use Rattle.thread_core.specs.Frames.{Stack, next_of, advanced}
+pub use Rattle.thread_core.specs.Frames.{start_of}
 pub use Rattle.thread_core.specs.Alone.{local_after_event}
 use Rattle.view_machine.specs.declared.stepped.Stepped.{Stepped}
 use Rattle.view_machine.specs.declared.stepped.Stepped.TheVariants as stepped
@@ -103,9 +102,6 @@ abbrev pub after_spend : State → ℕ → State
 after_spend s i = record s { ended = slice_set s.ended i true }
 
 -- The beginning.
-
-abbrev pub start_of : Program → Start → Stack
-start_of p start = begun p start.function (map Def start.args)
 
 -- where a program begins
 abbrev pub initial_state : Program → State

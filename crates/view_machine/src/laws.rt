@@ -4,12 +4,18 @@ ghost use Rattle.view_machine.specs.Reaching.{InitialStatesAreReached, StepsKeep
 ghost use Rattle.view_machine.specs.Lengths.{EntriesAreOfThreads, RunsAreShort};
 ghost use Rattle.view_machine.specs.Merged.{MergedHistoriesLead, MergedHistoriesAsk};
 ghost use Rattle.view_machine.specs.Asking.{StatementsHaveTheirAccesses};
-ghost use Rattle.view_machine.specs.Laws.{FailingEntriesAreLast, StatesAreWhole, RunsLead, RunsSplit, RunStatesSplit, RunsGoOn, OutputsAreTheRuns, RunVersionsAreFew, RunsHaveRoom, SilentStepsAreLocal, MergedHistoriesRun};
+ghost use Rattle.view_machine.specs.Laws.{FailingEntriesAreLast, EndingEntriesAreLast, StatesAreWhole, RunsLead, RunsSplit, RunStatesSplit, RunsGoOn, OutputsAreTheRuns, RunVersionsAreFew, RunsHaveRoom, SilentStepsAreLocal, MergedHistoriesRun};
 
 /// An entry that fails is the last of a run.
 #[tactic(auto, using(crate::proofs::RunLaws::failure_last))]
 pub fn failures_are_last()
     ensures { FailingEntriesAreLast }
+{}
+
+/// An entry that ends its thread is the last of that thread.
+#[tactic(auto, using(crate::proofs::Ends::end_last))]
+pub fn ends_are_last()
+    ensures { EndingEntriesAreLast }
 {}
 
 /// Each state of a run is whole: its memory is well-formed, its views are closed in it, and its

@@ -20,7 +20,7 @@ use il_syntax::{Program, Stmt};
 use message_memory::MessageMemory;
 use std::alloc::Global;
 use std::marker::Model;
-use thread_core::{Local, Next};
+use thread_core::{Local, Next, declared_values, start_threads};
 use values_undef::{Access, Choice, Event, NoMemory};
 use views::View;
 
@@ -52,12 +52,12 @@ impl<M: MessageMemory> Machine<M> {
         ensures state { IfOk result (λ m. state_in p.now m ≡ initial_state p.now) }
         ensures program { IfOk result (λ m. IsOf p.now m) }
     {
-        let locals = opening::locals(alloc, p)?;
+        let locals = start_threads(alloc, p)?;
         let places = (p.na.len() + p.atomic.len()) as u32;
         let views = opening::views(alloc, places, p.threads.len())?;
         let ended = vec![in alloc; false; p.threads.len()]?;
-        let na = opening::values(alloc, &p.na)?;
-        let atomic = opening::values(alloc, &p.atomic)?;
+        let na = declared_values(alloc, &p.na)?;
+        let atomic = declared_values(alloc, &p.atomic)?;
         let memory = M::start(alloc, &na, &atomic)?;
         Ok(Machine {
             locals,
@@ -85,22 +85,65 @@ impl<M: MessageMemory> Machine<M> {
         if !self.is_running(thread) {
             return Err(NoStep);
         }
-        match self.next(p, thread) {
-            Next::Silent => {
-                if *c != Choice::Plain {
-                    return Err(NoStep);
-                }
-                self.advance(p, thread);
-                Ok(Stepped::Silent)
-            }
-            Next::Access { a } => {
-                if !self.is_legal(p, thread, &a, c) {
-                    return Err(NoStep);
-                }
-                let event = self.access(p, thread, &a, c);
-                Ok(Stepped::Did { event })
-            }
+        if *c == Choice::Plain {
+            return self.step_plain(p, thread, c);
         }
+        match self.next(p, thread) {
+            Next::Silent => Err(NoStep),
+            Next::Access { a } => self.step_by(p, thread, &a, c),
+        }
+    }
+
+    /// Makes the step of a thread with the plain choice, if there is one.
+    fn step_plain(&mut self, p: &Program, thread: u32, c: &Choice) -> Result<Stepped, NoStep>
+        requires proper { IsProperProgram p.now }
+        requires program { IsOf p.now self.old }
+        requires running { IsRunning (state_in p.now self.old) thread }
+        requires plain { c.now ≡ Choice.Plain }
+        requires room { 1 ≤ self.old.spare }
+        requires versions { HasRoom self.old.memory }
+        ensures step { IfOk result (λ done. IsStep (state_in p.now self.old) thread c.now) }
+        ensures made { IfOk result (λ done. after_step p.now (state_in p.now self.old) thread c.now ≡ record { state = state_in p.now self.new; done = done }) }
+        ensures choice { IfOk result (λ done. (e : Event) → done ≡ Stepped.Did e → choice_of_event e ≡ c.now) }
+        ensures none { OnErr result (IsStep (state_in p.now self.old) thread c.now → ⊥) }
+        ensures same { OnErr result (self.new ≡ self.old) }
+        ensures program { IsOf p.now self.new }
+        ensures room { self.old.spare ≤ self.new.spare + 1 }
+    {
+        match self.proceed(p, thread) {
+            Next::Silent => Ok(Stepped::Silent),
+            Next::Access { a } => self.step_by(p, thread, &a, c),
+        }
+    }
+
+    /// Makes the access that comes next in a thread with this choice, if it is legal.
+    fn step_by(
+        &mut self,
+        p: &Program,
+        thread: u32,
+        a: &Access,
+        c: &Choice,
+    ) -> Result<Stepped, NoStep>
+        requires proper { IsProperProgram p.now }
+        requires program { IsOf p.now self.old }
+        requires running { IsRunning (state_in p.now self.old) thread }
+        requires asks { next_in (state_in p.now self.old) thread ≡ Next.Access a.now }
+        requires named { IsProperAccess p.now a.now }
+        requires room { 1 ≤ self.old.spare }
+        requires versions { HasRoom self.old.memory }
+        ensures step { IfOk result (λ done. IsStep (state_in p.now self.old) thread c.now) }
+        ensures made { IfOk result (λ done. after_step p.now (state_in p.now self.old) thread c.now ≡ record { state = state_in p.now self.new; done = done }) }
+        ensures choice { IfOk result (λ done. (e : Event) → done ≡ Stepped.Did e → choice_of_event e ≡ c.now) }
+        ensures none { OnErr result (IsStep (state_in p.now self.old) thread c.now → ⊥) }
+        ensures same { OnErr result (self.new ≡ self.old) }
+        ensures program { IsOf p.now self.new }
+        ensures room { self.old.spare ≤ self.new.spare + 1 }
+    {
+        if !self.is_legal(p, thread, a, c) {
+            return Err(NoStep);
+        }
+        let event = self.access(p, thread, a, c);
+        Ok(Stepped::Did { event })
     }
 
     /// Ends a thread whose budget of steps is used up, and leaves all else. `NoStep` comes exactly where the
@@ -209,33 +252,38 @@ impl<M: MessageMemory> Machine<M> {
         locals::function_in(&self.locals, thread as usize)
     }
 
-    /// Makes a silent step.
-    pub fn advance(&mut self, p: &Program, thread: u32)
+    /// Tells what comes next in a thread, and makes it if it is a silent step.
+    pub fn proceed(&mut self, p: &Program, thread: u32) -> Next
         requires proper { IsProperProgram p.now }
         requires program { IsOf p.now self.old }
         requires there { thread < length self.old.locals }
-        requires silent { next_in (state_in p.now self.old) thread ≡ Next.Silent }
-        ensures made { (after_step p.now (state_in p.now self.old) thread Choice.Plain).state ≡ state_in p.now self.new }
-        ensures done { (after_step p.now (state_in p.now self.old) thread Choice.Plain).done ≡ Stepped.Silent }
+        ensures next { result ≡ next_in (state_in p.now self.old) thread }
+        ensures proper { IsProperNext p.now result }
+        ensures made { result ≡ Next.Silent → (after_step p.now (state_in p.now self.old) thread Choice.Plain).state ≡ state_in p.now self.new }
+        ensures done { result ≡ Next.Silent → (after_step p.now (state_in p.now self.old) thread Choice.Plain).done ≡ Stepped.Silent }
+        ensures same { (a : Access) → result ≡ Next.Access a → self.new ≡ self.old }
         ensures program { IsOf p.now self.new }
         ensures room { self.new.spare ≡ self.old.spare }
         ensures memory { self.new.memory ≡ self.old.memory }
         ensures ended { self.new.ended ≡ self.old.ended }
         ensures threads { length self.new.locals ≡ length self.old.locals }
     {
-        locals::advance_in(&mut self.locals, p, thread as usize);
+        locals::proceed_in(&mut self.locals, p, thread as usize)
     }
 
-    /// Makes silent steps of a thread up to its next access, at most so many, and tells how many it made:
-    /// fewer than `most` exactly where it stands at an access. Nothing but the thread changes.
-    pub fn run_silent(&mut self, p: &Program, thread: u32, most: u64) -> u64
+    /// Makes silent steps of a thread up to its next access, at most so many. It tells how many it made, fewer
+    /// than `most` exactly where the thread stands at an access, and what comes next. Nothing but the thread
+    /// changes.
+    pub fn run_to(&mut self, p: &Program, thread: u32, most: u64) -> (u64, Next)
         requires proper { IsProperProgram p.now }
         requires program { IsOf p.now self.old }
         requires running { IsRunning (state_in p.now self.old) thread }
-        ensures most { result ≤ most }
-        ensures silent { AreSilent p.now thread result (state_in p.now self.old) }
-        ensures state { state_in p.now self.new ≡ after_silent p.now thread result (state_in p.now self.old) }
-        ensures stops { next_in (state_in p.now self.new) thread ≡ Next.Silent → result ≡ most }
+        ensures most { result.0 ≤ most }
+        ensures silent { AreSilent p.now thread result.0 (state_in p.now self.old) }
+        ensures state { state_in p.now self.new ≡ after_silent p.now thread result.0 (state_in p.now self.old) }
+        ensures next { result.1 ≡ next_in (state_in p.now self.new) thread }
+        ensures proper { IsProperNext p.now result.1 }
+        ensures stops { result.1 ≡ Next.Silent → result.0 ≡ most }
         ensures running { IsRunning (state_in p.now self.new) thread }
         ensures program { IsOf p.now self.new }
         ensures room { self.new.spare ≡ self.old.spare }
@@ -243,7 +291,7 @@ impl<M: MessageMemory> Machine<M> {
         ensures views { self.new.views ≡ self.old.views }
         ensures ended { self.new.ended ≡ self.old.ended }
     {
-        locals::run_silent_in(&mut self.locals, p, thread as usize, most)
+        locals::run_to_in(&mut self.locals, p, thread as usize, most)
     }
 
     /// Whether an access of a thread is legal with this choice.
@@ -275,7 +323,7 @@ impl<M: MessageMemory> Machine<M> {
         let i = thread as usize;
         let view = &mut self.views[i];
         let event = self.memory.access(thread, view, a, c);
-        locals::carry_in(&mut self.locals, p, i, &event);
+        locals::take_in(&mut self.locals, p, i, &event);
         self.ended[i] = event.is_finish();
         event
     }

@@ -1,3 +1,3 @@
 pub mod Callers
-pub mod ViewLemmas
-pub mod ThreadViewLemmas
+mod ViewLemmas
+mod ThreadViewLemmas

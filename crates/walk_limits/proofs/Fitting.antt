@@ -5,6 +5,7 @@ use Rattle.std.proofs.Math.Nat.{mul-le-mul_right}
 use Rattle.std.proofs.lemmas.Bool.{true≢false, cond_both, eq-eqb}
 use Rattle.std.proofs.lemmas.List.{get_or-set_same, length-set}
 use Rattle.std.proofs.lemmas.List.Elements.{All-from_recursion, recursion_from_All}
+use Rattle.values_undef.proofs.Callers.{all_get}
 use Rattle.values_undef.specs.Access.{choice_of_event, acquires, releases, is_fence_order}
 use Rattle.values_undef.specs.Journal.{used_steps, entry_steps}
 use Rattle.values_undef.specs.declared.access.Access.{Access}
@@ -21,28 +22,24 @@ use Rattle.views.specs.ThreadView.{ThreadView}
 use Rattle.message_memory.specs.declared.message.Message.{Message as TheMessage}
 use Rattle.message_memory.specs.Memory.{Memory, messages, inserted, with_message, last_to, IsWellFormedMemory}
 use Rattle.message_memory.specs.Step.{AdmitsChoice, StepResult, step_result, is_racy, meets_undef, read_at, write_message, update_message}
-use Rattle.message_memory.proofs.StepLemmas.{found_within, some_from_and, last_to-inserted}
+use Rattle.message_memory.proofs.Callers.{found_within, some_from_and, last_to-inserted}
 use Rattle.thread_core.specs.declared.next.Next.{Next}
 use Rattle.thread_core.specs.declared.next.Next.TheVariants as step
 use Rattle.thread_core.specs.Programs.{IsProperProgram, IsProperAccess, IsProperNext}
 use Rattle.thread_core.specs.Steps.{IsProperStack}
-use Rattle.thread_core.proofs.Keeping.{next_proper}
-use Rattle.thread_core.proofs.WellFormedProper.{well_formed_proper}
+use Rattle.thread_core.proofs.Callers.{next_proper, well_formed_proper}
 use Rattle.view_machine.specs.declared.stepped.Stepped.TheVariants as stepped
 use Rattle.view_machine.specs.State.{State, idle, local_in, view_in, next_in, step_by, Allows, declared_values, initial_state}
 use Rattle.view_machine.specs.Runs.{is_spend, after_silent, MakesAccess, MakesEventBy, after_event_by, IsEntry, after_entry, IsRunFrom}
 use Rattle.view_machine.specs.Laws.{IsReached}
-use Rattle.view_machine.proofs.Reached.{all_get, silent_reached, initial_reached, run_reached}
-use Rattle.view_machine.proofs.RunLaws.{spend_is, silent_memory}
 use Rattle.walker.specs.Progress.{IsWithin}
-use Rattle.walker.proofs.Bounds.{first_within}
-use Rattle.walker.proofs.Entries.{entry_there}
-use Rattle.walker.proofs.Events.{event_is}
+use Rattle.walker.proofs.Callers.{first_within, event_is}
+use Rattle.view_machine.proofs.Callers.{entry_there}
 use Rattle.journal_text.specs.Limits.{IsStamp, IsReadOrder, IsWriteOrder, IsFenceOrder, FitsEvent, FitsEntry}
 use Rattle.walk_limits.specs.Values.{HasEventValues}
 use Rattle.walk_limits.specs.Walks.{RunsAreFew, RunsFit, WalksFit}
 use Rattle.walk_limits.proofs.RunValues.{runs_have_values}
-use Rattle.view_machine.proofs.Callers.{runs_short}
+use Rattle.view_machine.proofs.Callers.{runs_short, silent_reached, initial_reached, run_reached, spend_is, silent_memory}
 use Rattle.walk_limits.proofs.Stamps.{AreSomeChosen, some_chosen, within_after}
 
 -- ---- what an event names, without its values
@@ -75,19 +72,19 @@ fits_event p (FailCompare y read) h q = h
 fits_event p Finish h q = tt
 fits_event p Spend h q = tt
 
-read_order : (order : Order) → releases order ≡ false → IsReadOrder order
+pub read_order : (order : Order) → releases order ≡ false → IsReadOrder order
 read_order Rlx h = tt
 read_order Acq h = tt
 read_order Rel h = true≢false h
 read_order AcqRel h = true≢false h
 
-write_order : (order : Order) → acquires order ≡ false → IsWriteOrder order
+pub write_order : (order : Order) → acquires order ≡ false → IsWriteOrder order
 write_order Rlx h = tt
 write_order Acq h = true≢false h
 write_order Rel h = tt
 write_order AcqRel h = true≢false h
 
-fence_order : (order : Order) → is_fence_order order ≡ true → IsFenceOrder order
+pub fence_order : (order : Order) → is_fence_order order ≡ true → IsFenceOrder order
 fence_order Rlx h = true≢false (sym h)
 fence_order Acq h = tt
 fence_order Rel h = tt

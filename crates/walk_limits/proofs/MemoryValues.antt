@@ -3,6 +3,7 @@ use Rattle.std.proofs.Common.{ℕ, pos, eqb, List, [], ◌∷◌, Option, Some, 
 use Rattle.std.proofs.lemmas.Bool.{cond_both}
 use Rattle.std.specs.List.{AllByRecursion}
 use Rattle.std.specs.Option.{unwrap_or}
+use Rattle.values_undef.proofs.Callers.{all_or, all_set, all_map}
 use Rattle.values_undef.specs.declared.value.Val.{Val}
 use Rattle.values_undef.specs.declared.value.Val.TheVariants.{Undef}
 use Rattle.values_undef.specs.declared.arithmetic.Op.TheVariants.{Add as Sum}
@@ -18,11 +19,10 @@ use Rattle.message_memory.specs.declared.message.Message.{Message as TheMessage}
 use Rattle.message_memory.specs.declared.message.Versioned.{Versioned}
 use Rattle.message_memory.specs.Memory.{Memory, Messages, messages, location_in, absent_location, message_at, first_message, inserted, with_message, initial_memory}
 use Rattle.message_memory.specs.Step.{StepResult, step_result, is_racy, meets_undef, read_value, read_at, updated, write_message, update_message}
-use Rattle.message_memory.proofs.StepLemmas.{all_inserted}
+use Rattle.message_memory.proofs.Callers.{all_inserted}
 use Rattle.view_machine.specs.State.{declared_values}
 use Rattle.journal_text.specs.Limits.{Has64Bits, IsValue}
 use Rattle.walk_limits.specs.Values.{HasEventValues}
-use Rattle.walk_limits.proofs.Listed.{all_or, all_set, all_map}
 use Rattle.walk_limits.proofs.ResultValues.{strict_value}
 use Rattle.walk_limits.proofs.Constants.{FitsLocation}
 use Rattle.walk_limits.proofs.ThreadValues.{FitsKind, FitsAccess}

@@ -3,6 +3,7 @@ use Rattle.std.proofs.Common.{◌≡◌, ℕ, ◌+◌, pos, Bool, true, List, []
 use Rattle.std.specs.Prelude.{◌||◌}
 use Rattle.std.proofs.lemmas.Bool.{cond_both}
 use Rattle.std.specs.List.{AllByRecursion}
+use Rattle.values_undef.proofs.Callers.{all_or, all_set, all_map, all_replicate}
 use Rattle.values_undef.specs.Access.{is_failure, ends_thread}
 use Rattle.values_undef.specs.Arithmetic.{result_of}
 use Rattle.values_undef.specs.declared.value.Val.{Val}
@@ -22,7 +23,7 @@ use Rattle.il_syntax.specs.declared.program.Function.{Function}
 use Rattle.il_syntax.specs.declared.program.Program.{Program}
 use Rattle.il_syntax.specs.Statements.{Head}
 use Rattle.il_paths.specs.Code.{first_head, AllCode}
-use Rattle.il_paths.proofs.Resuming.{all_go, all_first}
+use Rattle.il_paths.proofs.Callers.{all_go, all_first}
 use Rattle.thread_core.specs.declared.next.Next.{Next}
 use Rattle.thread_core.specs.declared.next.Next.TheVariants as next
 use Rattle.thread_core.specs.Programs.{function_at}
@@ -30,7 +31,6 @@ use Rattle.thread_core.specs.Frames.{Frame, Stack, blank, evaluated, evaluated_k
 use Rattle.view_machine.specs.State.{local_after_event}
 use Rattle.journal_text.specs.Limits.{Has64Bits, IsValue}
 use Rattle.walk_limits.specs.Values.{HasEventValues}
-use Rattle.walk_limits.proofs.Listed.{all_or, all_set, all_map, all_replicate}
 use Rattle.walk_limits.proofs.ResultValues.{result_value}
 use Rattle.walk_limits.proofs.Constants.{FitsAtom, FitsOperands, FitsHead, FitsProgram, function_fits_at, code_fits}
 

@@ -20,7 +20,8 @@ use Rattle.view_machine.specs.State.{State, view_in, next_in, Allows, step_by}
 use Rattle.view_machine.specs.Runs.{is_spend, MakesAccess}
 use Rattle.chooser.specs.Chosen.{leaves_choice, IsChosen, IsChosenBy}
 use Rattle.chooser.specs.Chosen.{chooser_after as asked_after}
-use Rattle.walker.specs.Choices.{candidates_by, IsEventChosen, IsEventChosenBy, chooser_after_event}
+use Rattle.walker.specs.Choices.{IsEventChosen, IsEventChosenBy, chooser_after_event}
+use Rattle.run_choices.specs.Candidates.{candidates_by}
 
 -- an access that leaves a choice has an atomic event, and no other has
 atomic_exactly : (m : Memory) (v : ThreadView) (i : ℕ) (a : Access) (c : Choice) → AdmitsChoice m v a c → is_atomic_event (step_result m v i a c).event ≡ leaves_choice a
@@ -69,21 +70,6 @@ pub event_asked : {C : Type 0} (next : C → ℕ → ℕ → C) (p : Program) (s
     → asked_after next s.memory (view_in s i) a chooser i ≡ chooser_after_event next s i chooser e
 event_asked next p s i a chooser e n h = λ j.
     cond (sym (atomic_is p s i a e n h) j) (next chooser i (length (candidates_by s i (sym n j)))) chooser
-
--- kinds of events
-pub ends_is : (e : Event) → is_spend e ≡ false → is_finish e ≡ ends_thread e
-ends_is (event.NaRead x v) h = refl
-ends_is (event.NaWrite x v n) h = refl
-ends_is (event.Read y o v to) h = refl
-ends_is (event.Write y o v a b) h = refl
-ends_is (event.Update y o a b c d) h = refl
-ends_is (event.Miss y o v a) h = refl
-ends_is (event.Fence order) h = refl
-ends_is (event.Print v) h = refl
-ends_is (event.Fail cause) h = refl
-ends_is (event.FailCompare y read) h = refl
-ends_is event.Finish h = refl
-ends_is event.Spend h = cc
 
 -- what is legal for a memory and a view is so for the same ones
 pub legal_in : (m m' : Memory) (v v' : ThreadView) (a : Access) (c : Choice) → m ≡ m' → v ≡ v' → IsLegal m v a c → IsLegal m' v' a c

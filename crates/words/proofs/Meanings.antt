@@ -19,9 +19,9 @@ use Rattle.clap.specs.declared.error.kind.ErrorKind.TheVariants as kind
 use Rattle.clap.specs.declared.parser.matches.ArgMatches.{ArgMatches}
 use Rattle.clap.specs.declared.parser.matches.ArgMatches.TheViews.{out-ArgMatches, out-SubCommand}
 use Rattle.il_syntax.specs.Name.{is_letter, is_word}
-use Rattle.words.specs.Commands.{commands}
+use Rattle.words.specs.Commands.{CommandWords, commands, walk_options}
 use Rattle.words.specs.Reading.{ReadsCommand}
-use Rattle.words.specs.Meaning.{ListsNumbers, Means, GivesValues, GivesDraws, GivesNumber, GivesNumbers, IsFormOf, SetsNumber, SetsWord, form_word, name_of, options_of}
+use Rattle.words.specs.Meaning.{ListsNumbers, Means, GivesValues, GivesDraws, GivesOrder, GivesSteps, GivesNumber, GivesNumbers, IsFormOf, SetsNumber, SetsWord, form_word, in_words, name_of, options_of}
 use Rattle.words.specs.Options.{Options, AllowsSettings, is_option, value_of}
 use Rattle.words.specs.Program.{clap_program, row_of}
 use Rattle.words.specs.Spelling.{Setting, WordText}
@@ -154,25 +154,21 @@ one_word word word' (Some text) a b = a.0 ∙ sym b.0
 
 -- ---- commands
 
-command_found : (c : Command) → find (λ p. bytes_eq p.0 (name_of c)) commands ≡ Some (name_of c, options_of c)
-command_found Check = refl
-command_found Opt = refl
-command_found Validate = refl
-command_found (Seq function) = refl
-command_found (Walk order draws steps) = refl
-command_found (Run seed steps) = refl
-command_found Replay = refl
-command_found (Gen number functions form) = refl
+-- a command of the list: clap finds it by its name, and takes its options for what they are
+pub record IsListed (w : CommandWords) : Type 0 where
+  pub found : find (λ p. bytes_eq p.0 w.0) commands ≡ Some w
+  pub named : list_all is_named w.1 ≡ true
+  pub no_dash : IsNoDash w.0
 
-command_named : (c : Command) → list_all is_named (options_of c) ≡ true
-command_named Check = refl
-command_named Opt = refl
-command_named Validate = refl
-command_named (Seq function) = refl
-command_named (Walk order draws steps) = refl
-command_named (Run seed steps) = refl
-command_named Replay = refl
-command_named (Gen number functions form) = refl
+listed : (c : Command) → IsListed (in_words c).words
+listed Check = record { found = refl; named = refl; no_dash = refl }
+listed Opt = record { found = refl; named = refl; no_dash = refl }
+listed Validate = record { found = refl; named = refl; no_dash = refl }
+listed (Seq function) = record { found = refl; named = refl; no_dash = refl }
+listed (Walk order draws steps) = record { found = refl; named = refl; no_dash = refl }
+listed (Run seed steps) = record { found = refl; named = refl; no_dash = refl }
+listed Replay = record { found = refl; named = refl; no_dash = refl }
+listed (Gen number functions form) = record { found = refl; named = refl; no_dash = refl }
 
 -- a name of a list of options is that of the first, or of the rest
 option_cases : (o : WordText × Bool) (os : Options) (name : WordText) → is_option (o ∷ os) name ≡ true → (o.0 ≡ name) ⊎ (is_option os name ≡ true)
@@ -218,16 +214,9 @@ one_draws os (Picks a) (Picks b) s t =
     let text : l.0 ≡ m.0 = cc in
     let same : a ≡ b = same_numbers 4294967295 l.0 a b (omega arith) l.2 (subst (λ t. AreNumbers 4294967295 t b) (sym text) m.2) in cc
 
-plain_settings : (c : Command) (os : List Setting) → GivesValues os c → PlainValues (options_of c) os
-plain_settings Check os s name value option is = absurd cc
-plain_settings Opt os s name value option is = absurd cc
-plain_settings Validate os s name value option is = absurd cc
-plain_settings (Seq function) os s name value option is = first (option_cases (codes "function", true) [] name option)
-  where
-    first : (codes "function" ≡ name) ⊎ (is_option [] name ≡ true) → IsPlain value
-    first (inl same) = plain_word function (value_of (codes "function") os) value s (ap (λ n. value_of n os) same ∙ is)
-    first (inr none) = absurd cc
-plain_settings (Walk order draws steps) os s name value option is = first (option_cases (codes "order", false) ((codes "picks", false) ∷ ((codes "seed", false) ∷ ((codes "steps", false) ∷ []))) name option)
+-- the settings of each command that walks
+plain_walk : (order : List ℕ) (draws : Drawing) (steps : ℕ) (os : List Setting) → GivesOrder os order × GivesDraws os draws × GivesSteps os steps → PlainValues walk_options os
+plain_walk order draws steps os s name value option is = first (option_cases (codes "order", false) ((codes "picks", false) ∷ ((codes "seed", false) ∷ ((codes "steps", false) ∷ []))) name option)
   where
     fourth : (codes "steps" ≡ name) ⊎ (is_option [] name ≡ true) → IsPlain value
     fourth (inl same) = plain_number 1 16384 1000 steps (value_of (codes "steps") os) value (omega arith) s.2 (ap (λ n. value_of n os) same ∙ is)
@@ -244,6 +233,14 @@ plain_settings (Walk order draws steps) os s name value option is = first (optio
     first : (codes "order" ≡ name) ⊎ (is_option ((codes "picks", false) ∷ ((codes "seed", false) ∷ ((codes "steps", false) ∷ []))) name ≡ true) → IsPlain value
     first (inl same) = plain_list 15 (value_of (codes "order") os) order value (omega arith) s.0 (ap (λ n. value_of n os) same ∙ is)
     first (inr rest) = second (option_cases (codes "picks", false) ((codes "seed", false) ∷ ((codes "steps", false) ∷ [])) name rest)
+
+plain_settings : (c : Command) (os : List Setting) → GivesValues os c → PlainValues (options_of c) os
+plain_settings (Seq function) os s name value option is = first (option_cases (codes "function", true) [] name option)
+  where
+    first : (codes "function" ≡ name) ⊎ (is_option [] name ≡ true) → IsPlain value
+    first (inl same) = plain_word function (value_of (codes "function") os) value s (ap (λ n. value_of n os) same ∙ is)
+    first (inr none) = absurd cc
+plain_settings (Walk order draws steps) os s name value option is = plain_walk order draws steps os s name value option is
 plain_settings (Run seed steps) os s name value option is = first (option_cases (codes "seed", false) ((codes "steps", false) ∷ []) name option)
   where
     second : (codes "steps" ≡ name) ⊎ (is_option [] name ≡ true) → IsPlain value
@@ -253,7 +250,6 @@ plain_settings (Run seed steps) os s name value option is = first (option_cases 
     first : (codes "seed" ≡ name) ⊎ (is_option ((codes "steps", false) ∷ []) name ≡ true) → IsPlain value
     first (inl same) = plain_number 0 18446744073709551615 0 seed (value_of (codes "seed") os) value (omega arith) s.0 (ap (λ n. value_of n os) same ∙ is)
     first (inr rest) = second (option_cases (codes "steps", false) [] name rest)
-plain_settings Replay os s name value option is = absurd cc
 plain_settings (Gen number functions form) os s name value option is = first (option_cases (codes "number", true) ((codes "functions", false) ∷ ((codes "form", false) ∷ [])) name option)
   where
     third : (codes "form" ≡ name) ⊎ (is_option [] name ≡ true) → IsPlain value
@@ -267,6 +263,7 @@ plain_settings (Gen number functions form) os s name value option is = first (op
     first : (codes "number" ≡ name) ⊎ (is_option ((codes "functions", false) ∷ ((codes "form", false) ∷ [])) name ≡ true) → IsPlain value
     first (inl same) = plain_number_set 0 18446744073709551615 number (value_of (codes "number") os) value (omega arith) s.0 (ap (λ n. value_of n os) same ∙ is)
     first (inr rest) = second (option_cases (codes "functions", false) ((codes "form", false) ∷ []) name rest)
+plain_settings c os s name value option is = absurd cc
 
 -- two commands of one name are of one kind
 same_name : (c d : Command) → bytes_eq (name_of c) (name_of d) ≡ false → name_of c ≡ name_of d → ⊥
@@ -305,7 +302,7 @@ taken_of words c m = record {
   options = options_of c;
   settings = m.settings;
   is = m.first;
-  command = command_found c;
+  command = (listed c).found;
   spells = m.spells;
   allows = m.allows;
 }
@@ -316,24 +313,14 @@ pub record Passes (words : List WordText) (c : Command) (settings : List Setting
   pub fault : fault_of (clap_program commands) words ≡ []
   pub rows : subcommand_of (clap_program commands) words ≡ Some (name_of c, map row_of settings)
 
-name_no_dash : (c : Command) → IsNoDash (name_of c)
-name_no_dash Check = refl
-name_no_dash Opt = refl
-name_no_dash Validate = refl
-name_no_dash (Seq function) = refl
-name_no_dash (Walk order draws steps) = refl
-name_no_dash (Run seed steps) = refl
-name_no_dash Replay = refl
-name_no_dash (Gen number functions form) = refl
-
 pub passes : (words : List WordText) (c : Command) (m : Means words c) → Passes words c m.settings
 passes words c m =
     let t = taken_of words c m in
     let plain = plain_settings c m.settings m.values in
-    let taken = words_take (codes "seqopt") commands words t (command_named c) plain in
-    let rest = options_no_dashes (codes "seqopt") commands words t (command_named c) plain in
+    let taken = words_take (codes "seqopt") commands words t (listed c).named plain in
+    let rest = options_no_dashes (codes "seqopt") commands words t (listed c).named plain in
     record {
-      dashes = none_dashes words (subst NoDashes (sym m.first) (name_no_dash c, rest));
+      dashes = none_dashes words (subst NoDashes (sym m.first) ((listed c).no_dash, rest));
       fault = taken.0;
       rows = taken.1;
     }
@@ -356,7 +343,7 @@ meant words name rows (Ok c) dashes fault is gives =
     let same_rows : rows ≡ map row_of t.settings = ap (λ o. option_map_or (λ p. p.1) o []) same in
     let given = gives t.settings same_rows in
     let found : Some (t.word, t.options) ≡ Some (name_of c, options_of c) =
-    sym t.command ∙ ap (λ w. find (λ p. bytes_eq p.0 w) commands) (sym names ∙ sym given.0) ∙ command_found c in
+    sym t.command ∙ ap (λ w. find (λ p. bytes_eq p.0 w) commands) (sym names ∙ sym given.0) ∙ (listed c).found in
     let options : t.options ≡ options_of c = ap (λ o. option_map_or (λ p. p.1) o []) found in
     record {
       rest = t.rest;

@@ -3,39 +3,46 @@ use Rattle.std.specs.Prelude.{true, false, List, [], ◌∷◌, codes}
 use Rattle.words.specs.Options.{Options}
 use Rattle.words.specs.Spelling.{WordText}
 
-abbrev pub check_options : Options
-check_options = []
+-- a command's name and its options
+abbrev pub CommandWords : Type 0
+CommandWords = WordText × Options
 
-abbrev pub opt_options : Options
-opt_options = []
+abbrev pub check_words : CommandWords
+check_words = (codes "check", [])
 
-abbrev pub validate_options : Options
-validate_options = []
+abbrev pub opt_words : CommandWords
+opt_words = (codes "opt", [])
 
-abbrev pub seq_options : Options
-seq_options = (codes "function", true) ∷ []
+abbrev pub validate_words : CommandWords
+validate_words = (codes "validate", [])
 
+abbrev pub seq_words : CommandWords
+seq_words = (codes "seq", (codes "function", true) ∷ [])
+
+-- the options of each command that walks
 abbrev pub walk_options : Options
 walk_options = (codes "order", false) ∷ ((codes "picks", false) ∷ ((codes "seed", false) ∷ ((codes "steps", false) ∷ [])))
 
-abbrev pub run_options : Options
-run_options = (codes "seed", false) ∷ ((codes "steps", false) ∷ [])
+abbrev pub walk_words : CommandWords
+walk_words = (codes "walk", walk_options)
 
-abbrev pub replay_options : Options
-replay_options = []
+abbrev pub run_words : CommandWords
+run_words = (codes "run", (codes "seed", false) ∷ ((codes "steps", false) ∷ []))
 
-abbrev pub gen_options : Options
-gen_options = (codes "number", true) ∷ ((codes "functions", false) ∷ ((codes "form", false) ∷ []))
+abbrev pub replay_words : CommandWords
+replay_words = (codes "replay", [])
 
--- each command's name and options
-abbrev pub commands : List (WordText × Options)
+abbrev pub gen_words : CommandWords
+gen_words = (codes "gen", (codes "number", true) ∷ ((codes "functions", false) ∷ ((codes "form", false) ∷ [])))
+
+abbrev pub commands : List CommandWords
 commands =
-    (codes "check", check_options)
-    ∷ ((codes "opt", opt_options)
-    ∷ ((codes "validate", validate_options)
-    ∷ ((codes "seq", seq_options)
-    ∷ ((codes "walk", walk_options)
-    ∷ ((codes "run", run_options)
-    ∷ ((codes "replay", replay_options)
-    ∷ ((codes "gen", gen_options)
+    check_words
+    ∷ (opt_words
+    ∷ (validate_words
+    ∷ (seq_words
+    ∷ (walk_words
+    ∷ (run_words
+    ∷ (replay_words
+    ∷ (gen_words
     ∷ [])))))))

@@ -1,7 +1,7 @@
 -- The command that words mean.
 use Rattle.std.specs.Prelude.{◌≡◌, ℕ, true, List, [], ◌∷◌, Option, Some, None, codes}
 use Rattle.il_syntax.specs.Name.{is_word}
-use Rattle.words.specs.Commands.{check_options, gen_options, opt_options, replay_options, run_options, seq_options, validate_options, walk_options}
+use Rattle.words.specs.Commands.{CommandWords, check_words, gen_words, opt_words, replay_words, run_words, seq_words, validate_words, walk_words}
 use Rattle.words.specs.Numbers.{IsNumber, AreNumbers}
 use Rattle.words.specs.Options.{AllowsSettings, Options, value_of}
 use Rattle.words.specs.Spelling.{Setting, SpellsSettings, WordText}
@@ -11,26 +11,6 @@ use Rattle.words.specs.declared.command.Drawing.{Drawing}
 use Rattle.words.specs.declared.command.Drawing.TheVariants.{Seed, Picks}
 use Rattle.words.specs.declared.command.Form.{Form}
 use Rattle.words.specs.declared.command.Form.TheVariants.{Text, Summary}
-
-abbrev pub name_of : Command → WordText
-name_of Check = codes "check"
-name_of Opt = codes "opt"
-name_of Validate = codes "validate"
-name_of (Seq function) = codes "seq"
-name_of (Walk order draws steps) = codes "walk"
-name_of (Run seed steps) = codes "run"
-name_of Replay = codes "replay"
-name_of (Gen number functions form) = codes "gen"
-
-abbrev pub options_of : Command → Options
-options_of Check = check_options
-options_of Opt = opt_options
-options_of Validate = validate_options
-options_of (Seq function) = seq_options
-options_of (Walk order draws steps) = walk_options
-options_of (Run seed steps) = run_options
-options_of Replay = replay_options
-options_of (Gen number functions form) = gen_options
 
 -- the number that a value gives, from low to high, or the default where the option is left out
 abbrev pub GivesNumber : ℕ → ℕ → ℕ → Option WordText → ℕ → Type 0
@@ -102,16 +82,34 @@ IsFormOf (Some text) form = text ≡ form_word form
 abbrev pub GivesForm : List Setting → Form → Type 0
 GivesForm settings form = IsFormOf (value_of (codes "form") settings) form
 
+-- A command in words: its name and options, and when settings give it its values.
+pub record InWords : Type 1 where
+  pub words : CommandWords
+  pub gives : List Setting → Type 0
+
+-- a command without values
+abbrev pub without_values : CommandWords → InWords
+without_values words = record { words = words; gives = λ settings. Unit {0} }
+
+abbrev pub in_words : Command → InWords
+in_words Check = without_values check_words
+in_words Opt = without_values opt_words
+in_words Validate = without_values validate_words
+in_words (Seq function) = record { words = seq_words; gives = λ settings. GivesFunctionName settings function }
+in_words (Walk order draws steps) = record { words = walk_words; gives = λ settings. GivesOrder settings order × GivesDraws settings draws × GivesSteps settings steps }
+in_words (Run seed steps) = record { words = run_words; gives = λ settings. GivesSeed settings seed × GivesSteps settings steps }
+in_words Replay = without_values replay_words
+in_words (Gen number functions form) = record { words = gen_words; gives = λ settings. GivesProgramNumber settings number × GivesFunctions settings functions × GivesForm settings form }
+
+abbrev pub name_of : Command → WordText
+name_of command = (in_words command).words.0
+
+abbrev pub options_of : Command → Options
+options_of command = (in_words command).words.1
+
 -- the settings give the command its values
 abbrev pub GivesValues : List Setting → Command → Type 0
-GivesValues settings Check = Unit {0}
-GivesValues settings Opt = Unit {0}
-GivesValues settings Validate = Unit {0}
-GivesValues settings (Seq function) = GivesFunctionName settings function
-GivesValues settings (Walk order draws steps) = GivesOrder settings order × GivesDraws settings draws × GivesSteps settings steps
-GivesValues settings (Run seed steps) = GivesSeed settings seed × GivesSteps settings steps
-GivesValues settings Replay = Unit {0}
-GivesValues settings (Gen number functions form) = GivesProgramNumber settings number × GivesFunctions settings functions × GivesForm settings form
+GivesValues settings command = (in_words command).gives settings
 
 -- the first word is the command, and the rest spell settings that its options allow and that give its values
 pub record Means (words : List WordText) (command : Command) : Type 0 where

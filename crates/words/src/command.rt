@@ -7,7 +7,7 @@ use std::alloc::{AllocError, AllocFailed};
 use values_undef::Turns;
 
 /// Where the choices of a walk come from.
-#[derive(Debug, Drop)]
+#[derive(Drop)]
 pub enum Drawing {
     /// Each thread draws from a generator of random numbers that this number starts.
     Seed { seed: u64 },
@@ -16,7 +16,7 @@ pub enum Drawing {
 }
 
 /// What is written of a program that is made from a number.
-#[derive(Debug, Clone, Copy, PartialEq, Eq)]
+#[derive(Clone, Copy, PartialEq, Eq)]
 pub enum Form {
     /// The program's text.
     Text,
@@ -25,7 +25,7 @@ pub enum Form {
 }
 
 /// What the words ask for.
-#[derive(Debug, Drop)]
+#[derive(Drop)]
 pub enum Command {
     /// Read a program and say whether it is one.
     Check,
@@ -61,7 +61,7 @@ pub enum Command {
 }
 
 /// Why words gave no command.
-#[derive(Debug, Drop, Clone, Copy, PartialEq, Eq)]
+#[derive(Drop, Clone, Copy, PartialEq, Eq)]
 pub enum WordsFault {
     /// The words mean no command.
     Refused,

@@ -3,7 +3,7 @@ ghost use Rattle.std.specs.Prelude.{◌≡◌, List, [], ◌∷◌, Bool, true, 
 ghost use Rattle.clap.specs.Words.{app_of, rule_of};
 ghost use Rattle.clap.specs.declared.builder.command.Command.TheViews.{out-Command as fields_of};
 ghost use Rattle.words.specs.Program.{clap_rule, clap_command, clap_program};
-ghost use Rattle.words.specs.Commands.{commands, gen_options, run_options, seq_options, walk_options};
+ghost use Rattle.words.specs.Commands.{commands, gen_words, run_words, seq_words, walk_options};
 
 use clap::{Arg, ArgAction, Command};
 use std::alloc::{AllocError, Global};
@@ -24,46 +24,27 @@ fn required_option<'a>(alloc: Global, name: &'a str) -> Arg<'a>
     option(alloc, name).required(true)
 }
 
-fn check<'a>(alloc: Global) -> Command<'a>
-    ensures app { app_of result ≡ clap_command (codes "check", []) }
+/// A command without options.
+fn plain<'a>(alloc: Global, name: &'a str) -> Command<'a>
+    ensures app { app_of result ≡ clap_command (name.entry.now, []) }
     ensures local { (fields_of result).has_globals ≡ false }
 {
-    Command::new(alloc, "check")
-}
-
-fn opt<'a>(alloc: Global) -> Command<'a>
-    ensures app { app_of result ≡ clap_command (codes "opt", []) }
-    ensures local { (fields_of result).has_globals ≡ false }
-{
-    Command::new(alloc, "opt")
-}
-
-fn validate<'a>(alloc: Global) -> Command<'a>
-    ensures app { app_of result ≡ clap_command (codes "validate", []) }
-    ensures local { (fields_of result).has_globals ≡ false }
-{
-    Command::new(alloc, "validate")
+    Command::new(alloc, name)
 }
 
 fn seq<'a>(alloc: Global) -> Result<Command<'a>, AllocError>
-    ensures app { IfOk result (λ c. app_of c ≡ clap_command (codes "seq", seq_options)) }
+    ensures app { IfOk result (λ c. app_of c ≡ clap_command seq_words) }
     ensures local { IfOk result (λ c. (fields_of c).has_globals ≡ false) }
 {
     Command::new(alloc, "seq").arg(required_option(alloc, "function"))
 }
 
-fn replay<'a>(alloc: Global) -> Command<'a>
-    ensures app { app_of result ≡ clap_command (codes "replay", []) }
-    ensures local { (fields_of result).has_globals ≡ false }
-{
-    Command::new(alloc, "replay")
-}
-
-fn walk<'a>(alloc: Global) -> Result<Command<'a>, AllocError>
-    ensures app { IfOk result (λ c. app_of c ≡ clap_command (codes "walk", walk_options)) }
+/// A command that walks.
+fn walking<'a>(alloc: Global, name: &'a str) -> Result<Command<'a>, AllocError>
+    ensures app { IfOk result (λ c. app_of c ≡ clap_command (name.entry.now, walk_options)) }
     ensures local { IfOk result (λ c. (fields_of c).has_globals ≡ false) }
 {
-    Command::new(alloc, "walk")
+    Command::new(alloc, name)
         .arg(option(alloc, "order"))?
         .arg(option(alloc, "picks"))?
         .arg(option(alloc, "seed"))?
@@ -71,7 +52,7 @@ fn walk<'a>(alloc: Global) -> Result<Command<'a>, AllocError>
 }
 
 fn run<'a>(alloc: Global) -> Result<Command<'a>, AllocError>
-    ensures app { IfOk result (λ c. app_of c ≡ clap_command (codes "run", run_options)) }
+    ensures app { IfOk result (λ c. app_of c ≡ clap_command run_words) }
     ensures local { IfOk result (λ c. (fields_of c).has_globals ≡ false) }
 {
     Command::new(alloc, "run")
@@ -80,7 +61,7 @@ fn run<'a>(alloc: Global) -> Result<Command<'a>, AllocError>
 }
 
 fn generating<'a>(alloc: Global) -> Result<Command<'a>, AllocError>
-    ensures app { IfOk result (λ c. app_of c ≡ clap_command (codes "gen", gen_options)) }
+    ensures app { IfOk result (λ c. app_of c ≡ clap_command gen_words) }
     ensures local { IfOk result (λ c. (fields_of c).has_globals ≡ false) }
 {
     Command::new(alloc, "gen")
@@ -106,12 +87,12 @@ pub(crate) fn program<'a>(alloc: Global) -> Result<Command<'a>, AllocError>
     ensures { IfOk result (λ c. app_of c ≡ clap_program commands) }
 {
     bare(alloc)
-        .subcommand(check(alloc))?
-        .subcommand(opt(alloc))?
-        .subcommand(validate(alloc))?
+        .subcommand(plain(alloc, "check"))?
+        .subcommand(plain(alloc, "opt"))?
+        .subcommand(plain(alloc, "validate"))?
         .subcommand(seq(alloc)?)?
-        .subcommand(walk(alloc)?)?
+        .subcommand(walking(alloc, "walk")?)?
         .subcommand(run(alloc)?)?
-        .subcommand(replay(alloc))?
+        .subcommand(plain(alloc, "replay"))?
         .subcommand(generating(alloc)?)
 }

@@ -2,22 +2,22 @@
 ghost use Rattle.std.specs.Prelude.{◌≡◌, ◌≤◌, ◌++◌, length, IfOk, OnOk};
 ghost use Rattle.il_syntax.specs.WellFormed.{IsWellFormed};
 ghost use Rattle.il_syntax.specs.Text.{program_text};
-ghost use Rattle.pass_chain.specs.Laws.{AreWellFormed};
 ghost use Rattle.simulation.specs.Chain.{AreAcceptedTargets};
+ghost use Rattle.reports.specs.Targets.{target_program};
 ghost use Rattle.tool.specs.Gen.{IsChainSummary, IsGenOutput, IsSummary, counts_lines, number_line, summary_lines};
 
 use crate::answer::Output;
 use crate::commands::replaying::ending_word;
-use crate::commands::walking::drawn;
 use crate::memory::Memory;
 use crate::status::Status;
+use crate::walks::drawn;
 use flow_summary::Summed;
 use gen_program::generate;
 use il_printer::print;
 use il_syntax::Program;
 use itoa::Buffer;
-use parallel_driver::optimise;
 use pass_chain::{Counts, ProgramChain, count};
+use reports::{optimised, target};
 use simulation::lift_chain;
 use std::alloc::Global;
 use std::thread::Threads;
@@ -81,18 +81,17 @@ fn entries_of(journal: &Journal) -> u64
 /// The summary of five programs that the passes have made: the last of them is walked, and its journal is lifted to the
 /// first.
 fn chain_summary(alloc: Global, number: u64, chain: &ProgramChain) -> Result<Vec<u8>, NoMemory>
-    requires well_formed { AreWellFormed chain.now }
+    requires well_formed { IsWellFormed (target_program chain.now) }
     requires accepted { AreAcceptedTargets chain.now }
     ensures { IfOk result (λ bytes. IsChainSummary number chain.now bytes.items) }
 {
-    let walk = drawn(alloc, &chain.undead, &[], number, STEPS)?;
-    lift_chain::<Memory>(alloc, chain, &walk.journal)?;
+    let walk = drawn(alloc, target(chain), &[], number, STEPS)?;
+    lift_chain::<Memory, Summed>(alloc, &Summed, chain, &walk.journal)?;
     let entries = entries_of(&walk.journal);
     lines(alloc, count(chain), entries, walk.ending)
 }
 
 /// The summary of a program that was made from this number.
-#[tactic(auto, using(crate::proofs::HeadlineFacts::are_accepted))]
 fn summary<R: Threads + Sync>(
     alloc: Global,
     rt: &R,
@@ -102,7 +101,7 @@ fn summary<R: Threads + Sync>(
     requires { IsWellFormed p.now }
     ensures { IfOk result (λ bytes. IsSummary number p.now bytes.items) }
 {
-    let chain = optimise(rt, alloc, &Summed, p)?;
+    let chain = optimised(alloc, rt, p)?;
     chain_summary(alloc, number, &chain)
 }
 

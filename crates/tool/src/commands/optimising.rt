@@ -4,10 +4,9 @@ ghost use Rattle.tool.specs.Opt.{IsOptOutput};
 
 use crate::answer::{Output, text_refused};
 use crate::status::Status;
-use flow_summary::Summed;
 use il_parser::parse;
 use il_printer::print;
-use parallel_driver::optimise;
+use reports::{optimised, target};
 use std::alloc::Global;
 use std::thread::Threads;
 use values_undef::NoMemory;
@@ -25,8 +24,8 @@ pub(crate) fn output<R: Threads + Sync>(
         Ok(p) => p,
         Err(fault) => return text_refused(alloc, input, fault),
     };
-    let chain = optimise(rt, alloc, &Summed, &p)?;
-    let text = print(alloc, &chain.undead)?;
+    let chain = optimised(alloc, rt, &p)?;
+    let text = print(alloc, target(&chain))?;
     Ok(Output {
         bytes: text.bytes,
         status: Status::Done,

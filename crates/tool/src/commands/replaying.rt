@@ -5,8 +5,9 @@ ghost use Rattle.tool.specs.Replay.{IsReplayOutput, IsVerdictOutput, ending_word
 use crate::answer::{Output, refused, written};
 use crate::memory::Memory;
 use crate::status::Status;
+use il_parser::InputFault;
 use replay::{Verdict, Why};
-use replay_text::{TextFault, read_replay};
+use replay_text::read_replay;
 use std::alloc::Global;
 use values_undef::{Ending, NoMemory};
 
@@ -63,9 +64,9 @@ pub(crate) fn output(alloc: Global, input: &[u8]) -> Result<Output, NoMemory>
             let verdict = replay::replay::<Memory>(alloc, &read.program, &read.journal)?;
             told(alloc, read.ending, verdict)
         }
-        Err(TextFault::Refused { rule, line, column }) => {
+        Err(InputFault::Refused { rule, line, column }) => {
             refused(alloc, rule.word(), line, column)
         }
-        Err(TextFault::NoMemory) => Err(NoMemory),
+        Err(InputFault::NoMemory) => Err(NoMemory),
     }
 }

@@ -1,16 +1,17 @@
 //! `run`: a run of the optimised program by as many threads as it has.
-ghost use Rattle.std.specs.Prelude.{◌≡◌, ◌<◌, ◌≤◌, ◌-◌, ◌^◌, length, IfOk};
+ghost use Rattle.std.specs.Prelude.{◌<◌, ◌≤◌, ◌-◌, ◌^◌, length, IfOk};
 ghost use Rattle.il_syntax.specs.WellFormed.{IsWellFormed};
 ghost use Rattle.view_machine.specs.Runs.{IsJournalRun};
-ghost use Rattle.tool.specs.Run.{IsThreadedRun, IsRunOutput};
+ghost use Rattle.reports.specs.Targets.{IsOptimised};
+ghost use Rattle.tool.specs.Headline.{IsReportOutput};
+ghost use Rattle.tool.specs.Run.{IsThreadedRun};
 
 use crate::answer::{Output, text_refused};
-use crate::commands::reporting::reported;
 use crate::memory::Memory;
-use flow_summary::Summed;
+use crate::reporting::told;
 use il_parser::parse;
 use il_syntax::Program;
-use parallel_driver::optimise;
+use reports::{optimised, target};
 use std::alloc::Global;
 use std::sync::Wait;
 use std::thread::Threads;
@@ -37,7 +38,6 @@ fn journal<R: Threads + Wait + Sync, G: Gate + Sync>(
 }
 
 /// The output of `run` for this input. The gate is called before each access of a thread.
-#[tactic(auto, using(crate::proofs::HeadlineFacts::are_accepted))]
 pub(crate) fn output<R: Threads + Wait + Sync, G: Gate + Sync>(
     alloc: Global,
     rt: &R,
@@ -48,13 +48,13 @@ pub(crate) fn output<R: Threads + Wait + Sync, G: Gate + Sync>(
 ) -> Result<Output, NoMemory>
     requires small { length input.now < 2 ^ 32 - 1 }
     requires few { steps ≤ 16384 }
-    ensures { IfOk result (λ o. IsRunOutput seed steps input.now o.bytes.items o.status) }
+    ensures { IfOk result (λ o. IsReportOutput IsOptimised (IsThreadedRun seed steps) steps input.now o.bytes.items o.status) }
 {
     let p = match parse(alloc, input) {
         Ok(p) => p,
         Err(fault) => return text_refused(alloc, input, fault),
     };
-    let chain = optimise(rt, alloc, &Summed, &p)?;
-    let journal = journal(alloc, rt, &chain.undead, seed, steps, gate)?;
-    reported(alloc, &chain, &journal)
+    let chain = optimised(alloc, rt, &p)?;
+    let journal = journal(alloc, rt, target(&chain), seed, steps, gate)?;
+    told(alloc, &chain, &journal)
 }

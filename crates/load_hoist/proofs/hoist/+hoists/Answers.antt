@@ -15,9 +15,10 @@ hoist_block-loop-statement-init t c =
     let na = c.args.na in
     let names = c.args.names.now in
     let inside = c.args.inside.now in
-    let g = c.args.growth.now in
+    let g = c.args.growing.now.growth in
     let e = tree_of-block c.args.block.now ∙ ap tree_of_all (sym c.as_slice-statement-items.ensures) in
     record {
+      taken = c.requires.taken;
       kept = ap (λ (ss : List Stmt). puts ss (introduced na names (tree_of_all c.as_slice-statement-items.result.now) inside g).0) c.new-kept.ensures ∙ ap (λ (tree : Tree). (introduced na names tree inside g).0) (sym e);
       growth = ap (λ (tree : Tree). (introduced na names tree inside g).1) (sym e);
     }
@@ -28,28 +29,28 @@ hoist_block-returns-clause-block t c =
     let kept = c.loop-statement.kept in
     let none = ap tree_of_all (drop_all c.loop-statement.statement-index ss c.loop-statement-test.false) in
     tree_of-block (record { statements = kept }) ∙ sym (puts-empty kept) ∙
-    ap (λ (tree : Tree). puts kept (introduced c.args.na c.args.names.now tree c.args.inside.now c.loop-statement.growth).0) (sym none) ∙ c.loop-statement.invariant.kept
+    ap (λ (tree : Tree). puts kept (introduced c.args.na c.args.names.now tree c.args.inside.now c.loop-statement.growing.growth).0) (sym none) ∙ c.loop-statement.invariant.kept
 
 pub hoist_statement-returns-in_ok-push-in-If-clause-kept : goal.hoist_statement-returns-in_ok-push-in-If-clause-kept
 hoist_statement-returns-in_ok-push-in-If-clause-kept t c rest =
     let new = made.If c.in-If.a c.in_ok-one-in-If.one c.in_ok-other-in-If.other in
-    (after_if c.args.na c.args.names.now c.args.inside.now c.args.growth.now rest c.args.statement.now new c.in-If.a c.in-If.yes c.in-If.no c.in_ok-one-in-If.one c.in_ok-other-in-If.other
-    c.hoist_block.new.growth c.hoist_block-in-If.new.growth c.in-If.is refl c.in_ok-one-in-If.ensures.block c.in_ok-one-in-If.ensures.growth c.in_ok-other-in-If.ensures.block c.in_ok-other-in-If.ensures.growth c.args.kept.now).0 ∙
-    ap (λ (ss : List Stmt). puts ss (introduced c.args.na c.args.names.now rest c.args.inside.now c.hoist_block-in-If.new.growth).0) (sym c.in_ok-push-in-If.ensures.ok)
+    (after_if c.args.na c.args.names.now c.args.inside.now c.args.growing.now.growth rest c.args.statement.now new c.in-If.a c.in-If.yes c.in-If.no c.in_ok-one-in-If.one c.in_ok-other-in-If.other
+    c.hoist_block.new.growing.growth c.hoist_block-in-If.new.growing.growth c.in-If.is refl c.in_ok-one-in-If.ensures.block c.in_ok-one-in-If.ensures.growth c.in_ok-other-in-If.ensures.block c.in_ok-other-in-If.ensures.growth c.args.kept.now).0 ∙
+    ap (λ (ss : List Stmt). puts ss (introduced c.args.na c.args.names.now rest c.args.inside.now c.hoist_block-in-If.new.growing.growth).0) (sym c.in_ok-push-in-If.ensures.ok)
 
 pub hoist_statement-returns-in_ok-push-in-While-clause-kept : goal.hoist_statement-returns-in_ok-push-in-While-clause-kept
 hoist_statement-returns-in_ok-push-in-While-clause-kept t c rest =
     let new = made.While c.in-While.a c.in_ok-turn-in-While.turn in
-    (after_while c.args.na c.args.names.now c.args.inside.now c.args.growth.now rest c.args.statement.now new c.in-While.a c.in-While.body c.in_ok-turn-in-While.turn
-    c.as_slice.result.now c.put_loads.new.growth c.hoist_block-in-While.new.growth c.in-While.is refl (c.as_slice.ensures ∙ c.in_ok-within-in-While.ensures.within) c.in_ok-within-in-While.ensures.growth
+    (after_while c.args.na c.args.names.now c.args.inside.now c.args.growing.now.growth rest c.args.statement.now new c.in-While.a c.in-While.body c.in_ok-turn-in-While.turn
+    c.as_slice.result.now c.put_loads.new.growing.growth c.hoist_block-in-While.new.growing.growth c.in-While.is refl (c.as_slice.ensures ∙ c.in_ok-within-in-While.ensures.within) c.in_ok-within-in-While.ensures.growth
     c.in_ok-turn-in-While.ensures.block c.in_ok-turn-in-While.ensures.growth c.args.kept.now).0 ∙
-    ap (λ (ss : List Stmt). puts ss (introduced c.args.na c.args.names.now rest c.args.inside.now c.hoist_block-in-While.new.growth).0)
+    ap (λ (ss : List Stmt). puts ss (introduced c.args.na c.args.names.now rest c.args.inside.now c.hoist_block-in-While.new.growing.growth).0)
     (sym (c.in_ok-push-in-While.ensures.ok ∙ ap (λ (ss : List Stmt). ss ++ new ∷ []) c.in_ok-within-in-While.ensures.kept))
 
 pub hoist_statement-returns-in_ok-push-in-While-clause-growth : goal.hoist_statement-returns-in_ok-push-in-While-clause-growth
 hoist_statement-returns-in_ok-push-in-While-clause-growth t c rest =
-    (after_while c.args.na c.args.names.now c.args.inside.now c.args.growth.now rest c.args.statement.now (made.While c.in-While.a c.in_ok-turn-in-While.turn) c.in-While.a c.in-While.body c.in_ok-turn-in-While.turn
-    c.as_slice.result.now c.put_loads.new.growth c.hoist_block-in-While.new.growth c.in-While.is refl (c.as_slice.ensures ∙ c.in_ok-within-in-While.ensures.within) c.in_ok-within-in-While.ensures.growth
+    (after_while c.args.na c.args.names.now c.args.inside.now c.args.growing.now.growth rest c.args.statement.now (made.While c.in-While.a c.in_ok-turn-in-While.turn) c.in-While.a c.in-While.body c.in_ok-turn-in-While.turn
+    c.as_slice.result.now c.put_loads.new.growing.growth c.hoist_block-in-While.new.growing.growth c.in-While.is refl (c.as_slice.ensures ∙ c.in_ok-within-in-While.ensures.within) c.in_ok-within-in-While.ensures.growth
     c.in_ok-turn-in-While.ensures.block c.in_ok-turn-in-While.ensures.growth c.args.kept.now).1
 
 pub hoist_statement-returns-in_ok-push-in_default : goal.hoist_statement-returns-in_ok-push-in_default
@@ -57,7 +58,7 @@ hoist_statement-returns-in_ok-push-in_default t c =
     let na = c.args.na in
     let names = c.args.names.now in
     let inside = c.args.inside.now in
-    let g = c.args.growth.now in
+    let g = c.args.growing.now.growth in
     let kept = c.args.kept.now in
     let s = c.args.statement.now in
     let plain = leaf_of s c.in_default.not-If c.in_default.not-While in
@@ -65,4 +66,5 @@ hoist_statement-returns-in_ok-push-in_default t c =
     record {
       kept = λ (rest : Tree). (after_plain na names inside g rest s plain.0 plain.1 kept).0 ∙ ap (λ (ss : List Stmt). puts ss (introduced na names rest inside g).0) (sym push);
       growth = λ (rest : Tree). (after_plain na names inside g rest s plain.0 plain.1 kept).1;
+      taken = c.requires.taken;
     }

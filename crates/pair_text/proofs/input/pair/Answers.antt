@@ -1,5 +1,5 @@
 use Rattle.std.proofs.Common.{subst}
-use Rattle.pair_text.specs.Division.{DividesAtLine}
+use Rattle.text_parts.specs.Division.{DividesAtLine}
 use Rattle.pair_text.proofs.Answered.{texts_answer}
 use Rattle.pair_text.proofs.input.pair.Goals as goal
 

@@ -8,8 +8,8 @@ use Rattle.pass_chain.specs.Laws.{AreWellFormed}
 use Rattle.pass_chain.proofs.Callers.{opt_all_is_well_formed}
 use Rattle.parallel_driver.specs.Neighbours.{AreNeighbours}
 use Rattle.parallel_driver.proofs.NeighbourLaws.{chains_are_accepted}
-use Rattle.parallel_driver.proofs.OkLaws.{if_ok}
 use Rattle.parallel_driver.proofs.driver.optimise.Goals as goal
+use Rattle.validator.proofs.Callers.{if_ok}
 
 pub chains_of-requires-clause-small : goal.chains_of-requires-clause-small
 chains_of-requires-clause-small g c κs lives =

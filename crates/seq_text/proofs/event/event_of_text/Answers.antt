@@ -1,6 +1,6 @@
 use Rattle.std.proofs.Common.{◌∙◌, ap, map, List}
 use Rattle.std.specs.Borrow.{Bor}
-use Rattle.journal_text.specs.Line.{Text}
+use Rattle.text_parts.specs.Lines.{Text}
 use Rattle.seq_text.proofs.EventWords.{line_decodes}
 use Rattle.seq_text.proofs.event.event_of_text.Goals as goal
 

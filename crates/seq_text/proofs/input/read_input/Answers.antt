@@ -1,12 +1,13 @@
 use Rattle.std.proofs.Common.{subst}
-use Rattle.pair_text.specs.Division.{LacksLine, DividesAtLine}
+use Rattle.text_parts.specs.Division.{LacksLine, DividesAtLine}
+use Rattle.seq_text.proofs.Answered.{eventless}
 use Rattle.seq_text.proofs.input.read_input.Goals as goal
 
 pub returns-in_default-divide_at_line-clause-answer : goal.returns-in_default-divide_at_line-clause-answer
 returns-in_default-divide_at_line-clause-answer c =
     let at = subst (λ word. DividesAtLine word c.args.input.now c.in-Some.source_text.now c.in-Some.rest.now) c.as_slice.ensures c.in-Some.ensures in
     let none = subst (λ word. LacksLine word c.in-Some.rest.now) c.as_slice-2.ensures c.in_default-divide_at_line.ensures in
-    c.no_events.ensures c.args.input.now c.in-Some.rest.now at none
+    eventless c.args.input.now c.at_line-in_default-divide_at_line.result c.in-Some.source_text.now c.in-Some.rest.now at none c.at_line-in_default-divide_at_line.ensures
 
 pub returns-clause-answer : goal.returns-clause-answer
 returns-clause-answer c =

@@ -17,5 +17,5 @@ overflow_add-first_line c =
 pub returns-in-Err-Refused-clause-answer : goal.returns-in-Err-Refused-clause-answer
 returns-in-Err-Refused-clause-answer c = λ input divided.
     let refused : AreEventsRefusedAfter c.args.pair.source c.args.events_text.now c.in-Err-Refused.lines = search rules in
-    events_refused input c.line_fault.result c.args.source_text.now c.args.target_text.now c.args.events_text.now divided c.args.pair.source c.args.pair.target c.in-Err-Refused.lines _
-    c.requires.spelled refused (omega (arith, c.first_line-first_line.ensures.is)) c.line_fault.ensures
+    events_refused input c.at_line.result c.args.source_text.now c.args.target_text.now c.args.events_text.now divided c.args.pair.source c.args.pair.target c.in-Err-Refused.lines _
+    c.requires.spelled refused (omega (arith, c.first_line-first_line.ensures.is)) c.at_line.ensures

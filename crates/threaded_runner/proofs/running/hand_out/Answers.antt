@@ -1,12 +1,13 @@
 use Rattle.std.proofs.Common.{◌≡◌, inl, ◌+◌, ◌++◌, ◌∷◌, [], ℕ, List, length, map, sym, ap, ◌∙◌, subst, arith, length-append}
 use Rattle.std.specs.List.{AllByRecursion}
+use Rattle.values_undef.proofs.Callers.{all_push, all_pop}
 use Rattle.thread_core.specs.Steps.{Positions, stack_in, ArePositions}
 use Rattle.view_machine.specs.State.{start_of, local_in, initial_state}
 use Rattle.shared_memory.specs.Passes.{PassValue, IsRow, own_calls}
 use Rattle.chooser.specs.Draws.{generator}
 use Rattle.threaded_runner.specs.declared.worker.Worker.{Worker}
 use Rattle.threaded_runner.specs.Workers.{IsReady, IsDescending}
-use Rattle.threaded_runner.proofs.Rows.{all_push, all_pop, row_pop, descends_push, last_local, stacks_pop, ready_at, fits_taken}
+use Rattle.threaded_runner.proofs.Rows.{row_pop, descends_push, last_local, stacks_pop, ready_at, fits_taken}
 use Rattle.threaded_runner.proofs.running.hand_out.Goals as goal
 
 pub loop-local-preserved : goal.loop-local-preserved

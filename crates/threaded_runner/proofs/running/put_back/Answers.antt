@@ -1,10 +1,11 @@
 use Rattle.std.proofs.Common.{◌≡◌, ◌+◌, ◌++◌, ◌∷◌, [], ℕ, List, length, sym, ap, ◌∙◌, subst, arith, length-append}
 use Rattle.std.specs.List.{AllByRecursion}
+use Rattle.values_undef.proofs.Callers.{all_push, all_pop}
 use Rattle.shared_memory.specs.Passes.{PassValue, IsPassOf, IsRow, own_calls}
 use Rattle.threaded_runner.specs.declared.worker.Worker.{Worker}
 use Rattle.threaded_runner.specs.Worked.{Worked}
 use Rattle.threaded_runner.specs.Workers.{IsDescending}
-use Rattle.threaded_runner.proofs.Rows.{all_push, all_pop, row_push, descends_pop}
+use Rattle.threaded_runner.proofs.Rows.{row_push, descends_pop}
 use Rattle.threaded_runner.proofs.running.put_back.Goals as goal
 
 pub loop-worker-preserved : goal.loop-worker-preserved

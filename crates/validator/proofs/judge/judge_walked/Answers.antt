@@ -44,4 +44,4 @@ returns t c =
     (subst (λ (l : List Need). IsTold table parts l pending c.len-count.result judged) (c.as_slice-3.ensures.value ∙ needed)
     (subst (λ (l : List Part). IsTold table l c.as_slice-3.result.now pending c.len-count.result judged) c.as_slice-2.ensures.value c.first_fault.ensures)) in
     let are_pending = subst (λ (l : List Part). ArePending m (role_at l) pending) c.as_slice.ensures.value c.in_ok-pending.ensures in
-    subst (λ (tree : Tree). IsJudgedBy (FaultAt tree parts) judged) c.in_ok-merged.ensures (told_judged m parts table pending c.in_ok-table.ensures are_pending (c.requires.whole ∙ sym e) judged told)
+    subst (λ (tree : Tree). IsJudgedBy (FaultAt tree parts) judged) c.in_ok-merged.ensures (told_judged m parts table pending (λ site x a role h. c.in_ok-table.ensures site x a h) are_pending (c.requires.whole ∙ sym e) judged told)

@@ -1,9 +1,9 @@
 use Rattle.std.proofs.Common.{◌+◌, Bool, drop, sym, ap, ◌∙◌, arith}
 use Rattle.il_paths.specs.Tree.{Tree, Empty, before_rest, tree_of_all, sites_of}
 use Rattle.il_paths.specs.Code.{placed}
-use Rattle.il_paths.proofs.Trees.{tree_of-block, sites_of-drop}
+use Rattle.il_paths.proofs.Callers.{tree_of-block, sites_of-drop}
 use Rattle.path_meets.specs.Chain.{may_rank}
-use Rattle.path_meets.proofs.SitedSteps.{exit-drop}
+use Rattle.path_meets.proofs.Callers.{exit-drop}
 use Rattle.location_sets.specs.Sets.{has}
 use Rattle.validator.specs.Roles.{pending_step}
 use Rattle.validator.specs.Walk.{role_at}

@@ -4,10 +4,10 @@ use Rattle.il_syntax.specs.declared.statement.Stmt.TheOpen.{If, While}
 use Rattle.il_syntax.specs.Statements.{Head}
 use Rattle.il_paths.specs.Tree.{Tree, Empty, before_rest, tree_of, tree_of_all, sites_of}
 use Rattle.il_paths.specs.Code.{placed}
-use Rattle.il_paths.proofs.Trees.{tree_of-block, sites_of-drop}
+use Rattle.il_paths.proofs.Callers.{tree_of-block, sites_of-drop}
 use Rattle.path_meets.specs.Chain.{may_rank}
 use Rattle.path_meets.specs.Walks.{meet_of_turns}
-use Rattle.path_meets.proofs.SitedSteps.{exit-drop, table-drop, table-if, table-while}
+use Rattle.path_meets.proofs.Callers.{exit-drop, table-drop, table-if, table-while}
 use Rattle.location_sets.specs.Sets.{has, column}
 use Rattle.validator.specs.Roles.{pending_after_role, pending_step}
 use Rattle.validator.specs.Walk.{role_at}

@@ -1,6 +1,6 @@
 use Rattle.std.proofs.Common.{◌+◌, ◌++◌, drop, sym, ap, ◌∙◌, append_assoc}
 use Rattle.il_paths.specs.Tree.{Tree, Empty, before_rest, tree_of_all}
-use Rattle.il_paths.proofs.Trees.{tree_of-block}
+use Rattle.il_paths.proofs.Callers.{tree_of-block}
 use Rattle.validator.specs.Told.{needs_of}
 use Rattle.validator.proofs.NeedLaws.{needs_of-drop}
 use Rattle.validator.proofs.told.+needs.Goals as goal

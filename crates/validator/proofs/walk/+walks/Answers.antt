@@ -2,7 +2,7 @@ use Rattle.std.proofs.Common.{◌+◌, ◌-◌, ◌++◌, ◌∷◌, [], List, B
 use Rattle.std.proofs.lemmas.List.{drop_all, take_all, length-drop}
 use Rattle.il_syntax.specs.declared.statement.Stmt.{Stmt}
 use Rattle.il_paths.specs.Tree.{Tree, tree_of_all}
-use Rattle.il_paths.proofs.Trees.{tree_of-block}
+use Rattle.il_paths.proofs.Callers.{tree_of-block}
 use Rattle.validator.specs.declared.walk.Part.{Part}
 use Rattle.validator.specs.Walk.{walk, before_loop, inserted_part, and_then}
 use Rattle.validator.specs.Walked.{came_to}

@@ -3,11 +3,12 @@ use Rattle.values_undef.specs.declared.access.Choice.TheVariants.{Plain}
 use Rattle.values_undef.specs.declared.access.Event.TheVariants as event
 use Rattle.view_machine.specs.Held.{state_in, IsOf}
 use Rattle.view_machine.specs.State.{after_spend}
-use Rattle.view_machine.specs.Runs.{is_spend}
+use Rattle.values_undef.specs.Access.{is_spend}
 use Rattle.view_machine.proofs.Callers.{spend_is}
 use Rattle.refinement.specs.Books.{recorded}
 use Rattle.refinement.specs.Playings.{played, IsMade}
-use Rattle.refinement.proofs.Playings.{has_room, carried_few, spend_goes, end_goes, end_is_finish}
+use Rattle.values_undef.proofs.Callers.{end_is_finish}
+use Rattle.refinement.proofs.Playings.{has_room, carried_few, spend_goes, end_goes}
 use Rattle.refinement.proofs.playing.Playing.end.Goals as goal
 
 pub returns-then-is_spend-clause-ready : goal.returns-then-is_spend-clause-ready

@@ -1,9 +1,10 @@
 use Rattle.std.proofs.Common.{rules, ◌≡◌, true, false, refl}
 use Rattle.view_machine.specs.Held.{state_in}
-use Rattle.message_memory.specs.EventLaws.{is_read}
+use Rattle.values_undef.specs.Access.{is_read}
+use Rattle.values_undef.proofs.Callers.{is_nonatomic_read}
 use Rattle.refinement.specs.Playing.{at_load}
 use Rattle.refinement.specs.Playings.{played}
-use Rattle.refinement.proofs.Playings.{left_out, is_nonatomic_read}
+use Rattle.refinement.proofs.Playings.{left_out}
 use Rattle.refinement.proofs.playing.Playing.event.Goals as goal
 
 pub returns-then-not-at_load-clause-goes : goal.returns-then-not-at_load-clause-goes

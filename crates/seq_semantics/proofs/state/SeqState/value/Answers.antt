@@ -1,8 +1,8 @@
 use Rattle.std.proofs.Common.{length, refl, sym, ap, subst, ◌∙◌, arith}
 use Rattle.il_syntax.specs.Statements.{head_of}
-use Rattle.il_paths.proofs.Trees.{head_of-call}
+use Rattle.il_paths.proofs.Callers.{head_of-call}
 use Rattle.thread_core.specs.Programs.{IsProperHead}
-use Rattle.thread_core.proofs.Placing.{call_few}
+use Rattle.thread_core.proofs.Callers.{call_few}
 use Rattle.seq_semantics.specs.Held.{HeldSeq, IsSeqOf}
 use Rattle.seq_semantics.proofs.OneCall.{kept}
 use Rattle.seq_semantics.proofs.state.SeqState.value.Goals as goal

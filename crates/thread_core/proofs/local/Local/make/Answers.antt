@@ -1,7 +1,7 @@
 use Rattle.std.proofs.Common.{◌≡◌, length, Some, ap, subst, ◌∙◌, arith}
 use Rattle.il_syntax.specs.declared.statement.Stmt.{Stmt}
 use Rattle.il_syntax.specs.Statements.{head_of}
-use Rattle.il_paths.proofs.Trees.{head_of-call}
+use Rattle.il_paths.proofs.Callers.{head_of-call}
 use Rattle.thread_core.specs.Programs.{IsProperHead}
 use Rattle.thread_core.specs.Steps.{stack_in, entered}
 use Rattle.thread_core.proofs.Placing.{calls_in, call_few}

@@ -1,0 +1,27 @@
+mod Sets
+mod Agrees
+mod Views
+mod Messages
+mod Invariant
+mod Cases
+mod Steps
+mod Histories
+mod Legal
+mod Theorem
+mod Ticking
+mod RunCalls
+mod LinkLemmas
+mod StampLemmas
+mod Entering
+mod Reading
+mod Accesses
+mod RowSteps
+mod RunFacts
+mod RowGoals
+mod RaceSteps
+mod RaceGoals
+mod GraphFacts
+mod LastSteps
+mod LastGoals
+mod OneGraph
+pub mod Callers

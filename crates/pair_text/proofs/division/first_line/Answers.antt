@@ -1,8 +1,0 @@
-use Rattle.pair_text.proofs.Lines.{line_taken, no_line}
-use Rattle.pair_text.proofs.division.first_line.Goals as goal
-
-pub returns-in-Some : goal.returns-in-Some
-returns-in-Some c = line_taken c.args.text.now c.in-Some.length c.in-Some.ensures
-
-pub returns-in-None : goal.returns-in-None
-returns-in-None c = no_line c.args.text.now c.in-None.ensures

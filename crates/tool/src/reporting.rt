@@ -1,0 +1,43 @@
+//! The output for a run of a program.
+ghost use Rattle.std.specs.Prelude.{◌≡◌, IfOk};
+ghost use Rattle.view_machine.specs.Runs.{IsJournalRun};
+ghost use Rattle.refinement.specs.Playings.{AreFew};
+ghost use Rattle.simulation.specs.Chain.{AreAcceptedTargets};
+ghost use Rattle.reports.specs.Targets.{target_program};
+ghost use Rattle.tool.specs.Headline.{IsToldRun};
+ghost use Rattle.tool.specs.Statuses.{status_of};
+
+use crate::answer::Output;
+use crate::memory::Memory;
+use crate::status::status_of;
+use pass_chain::ProgramChain;
+use reports::{Report, reported};
+use std::alloc::Global;
+use values_undef::{Journal, NoMemory};
+
+/// The output for a report: its text, with the status of its ending.
+pub(crate) fn output_of_report(report: Report) -> Output
+    ensures bytes { result.bytes.items ≡ report.bytes.items }
+    ensures status { result.status ≡ status_of report.ending }
+{
+    Output {
+        bytes: report.bytes,
+        status: status_of(report.ending),
+    }
+}
+
+/// The output for a run of the last program of a chain, whose journal is lifted to the first.
+#[tactic(auto, using(crate::proofs::ReportFacts::is_told))]
+pub(crate) fn told(
+    alloc: Global,
+    chain: &ProgramChain,
+    journal: &Journal,
+) -> Result<Output, NoMemory>
+    requires accepted { AreAcceptedTargets chain.now }
+    requires run { IsJournalRun (target_program chain.now) journal.now }
+    requires few { AreFew journal.now }
+    ensures { IfOk result (λ o. IsToldRun chain.now.source (target_program chain.now) journal.now o.bytes.items o.status) }
+{
+    let report = reported::<Memory>(alloc, chain, journal)?;
+    Ok(output_of_report(report))
+}
