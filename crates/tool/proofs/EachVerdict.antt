@@ -1,6 +1,6 @@
 -- Each input of `validate`, of `seq` and of `opt` has an output, since each pair of functions is judged, each pair of programs
 -- has a verdict, and each program has a chain.
-use Rattle.std.proofs.Common.{◌≡◌, ◌⊎◌, ◌<◌, ◌≤◌, ℕ, Bool, true, false, cond, nat_lt, List, length, Option, Some, None, inl, inr, refl, arith}
+use Rattle.std.proofs.Common.{◌≡◌, ◌⊎◌, ◌<◌, ◌≤◌, ℕ, Bool, true, false, cond, nat_lt, List, length, get_or, Option, Some, None, inl, inr, refl, arith}
 use Rattle.std.specs.Prelude.{position}
 use Rattle.std.specs.Str.{bytes_eq}
 use Rattle.std.specs.List.{position_or_len}
@@ -77,7 +77,7 @@ position_below p xs n e = go (nat_lt (position_or_len p xs) (length xs)) refl e
 there : (p : Program) (f : ℕ) → f < length p.functions → (g : Function) × (function_at p f ≡ Some g)
 there p f below = go (slice_get_cases p.functions f).1
   where
-    go : ((g : Function) × (f < length p.functions) × (function_at p f ≡ Some g) × _) ⊎ ((length p.functions ≤ f) × _) → (g : Function) × (function_at p f ≡ Some g)
+    go : ((g : Function) × (f < length p.functions) × (function_at p f ≡ Some g) × (get_or p.functions f g ≡ g)) ⊎ ((length p.functions ≤ f) × (function_at p f ≡ None)) → (g : Function) × (function_at p f ≡ Some g)
     go (inl x) = (x.0, x.2)
     go (inr x) = absurd (omega (arith, below, x.0))
 
