@@ -1,3 +1,2 @@
 -- What proofs of other crates use.
-pub use Rattle.seq_session.proofs.FirstFaults.{one_first_fault}
 pub use Rattle.seq_session.proofs.OneAnswer.{one_seq_answer}

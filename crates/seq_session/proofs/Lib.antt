@@ -1,4 +1,3 @@
-mod FirstFaults
 mod OneAnswer
 mod Answered
 mod EachAnswer

@@ -22,7 +22,7 @@ use Rattle.seq_session.specs.declared.answer.SeqAnswer.{SeqAnswer}
 use Rattle.seq_session.specs.declared.answer.SeqAnswer.TheVariants.{Refused, OtherShape, RefusedFunction, Played}
 use Rattle.seq_session.specs.Laws.{SessionsHaveOneAnswer}
 use Rattle.seq_session.specs.Session.{refused_by, function_number, IsRefusedPair, IsPlay, IsFunctionAnswer, other_shape, refused_function, unlawful, played, IsNamedAnswer, IsSeqAnswer, unread, read}
-use Rattle.seq_session.proofs.FirstFaults.{one_first_fault}
+use Rattle.validator.proofs.Callers.{one_first_fault}
 
 -- there is one function of a number
 same_some : {f g : Function} {o : Option Function} → o ≡ Some f → o ≡ Some g → f ≡ g

@@ -5,17 +5,18 @@ ghost use Rattle.shared_memory.specs.Slot.{first_memory, params_for};
 ghost use Rattle.shared_memory.specs.Passes.{PassValue};
 ghost use Rattle.threads_rows.specs.Each.{IsReadyPass, IsSamePass};
 
-use chooser::Draw;
+use chooser::Picks;
 use il_syntax::{Atom, Block, Function, Location, Name, Program, Start, Stmt};
 use message_memory::PlainMemory;
-use shared_memory::{Pass, Shared};
+use shared_memory::{Answer, Pass, Shared};
 use sqlite_items::Items;
 use std::alloc::{AllocError, Global};
 use std::sync::Wait;
+use std::sync::atomic::{AtomicU64, Ordering};
 use std::test::Fail;
 use std::thread;
 use std::thread::Threads;
-use values_undef::{Access, Cause, Entry, Event, Journal, NoMemory, Order, Val};
+use values_undef::{Access, Cause, Entry, Event, Journal, NoMemory, Order, Turns, Val};
 
 fn list<T: Drop, const N: usize>(alloc: Global, items: [T; N]) -> Result<Items<T>, AllocError> {
     Ok(Items::from_vec(Vec::from_array(alloc, items)?))
@@ -89,18 +90,47 @@ fn is_proper(p: &Program, a: &Access) -> bool
     }
 }
 
+/// An access, what it is to be answered, and whether it was.
+struct Row<'a> {
+    access: &'a Access,
+    wanted: Answer,
+    right: &'a AtomicU64,
+}
+
+/// Makes the access of the pass's thread, which picks the candidate of the thread's own number.
+fn access_once<R: Wait>(
+    rt: &R,
+    alloc: Global,
+    shared: &Shared<PlainMemory>,
+    pass: &mut Pass<PlainMemory>,
+    row: &Row<'_>,
+)
+    requires proper { IsProper (first_memory shared.now.params) row.now.access.now }
+    requires ready { IsReadyPass shared.now pass.old }
+    ensures { IsSamePass shared.now pass.old pass.new }
+{
+    let Ok(turns) = Vec::from_slice(alloc, &[pass.thread()]) else {
+        return;
+    };
+    let answer = shared.access(rt, pass, 0, row.access, &mut Picks::new(Turns { turns }));
+    if answer == row.wanted {
+        row.right.store(1, Ordering::SeqCst);
+    }
+}
+
 /// Makes an access with each of the passes of two threads, in so many threads.
 fn access_each<R: Threads + Wait + Sync>(
     rt: &R,
+    alloc: Global,
     shared: &Shared<PlainMemory>,
     passes: &mut [Pass<PlainMemory>],
     threads: usize,
-    first: &Access,
-    second: &Access,
+    first: &Row<'_>,
+    second: &Row<'_>,
 )
     requires some { 0 < threads }
-    requires first { IsProper (first_memory shared.now.params) first.now }
-    requires second { IsProper (first_memory shared.now.params) second.now }
+    requires first { IsProper (first_memory shared.now.params) first.now.access.now }
+    requires second { IsProper (first_memory shared.now.params) second.now.access.now }
     requires ready { (k : ℕ) (pass : PassValue) → k < length passes.old → IsReadyPass shared.now (slice_index_or passes.old k pass) }
     ensures { (k : ℕ) (pass : PassValue) → k < length passes.old → IsSamePass shared.now (slice_index_or passes.old k pass) (slice_index_or passes.new k pass) }
 {
@@ -109,12 +139,11 @@ fn access_each<R: Threads + Wait + Sync>(
         passes,
         threads,
         &|_, pass: &mut Pass<PlainMemory>|
-            requires { IsProper (first_memory shared.now.params) first.now × IsProper (first_memory shared.now.params) second.now × IsReadyPass shared.now pass.now }
+            requires { IsProper (first_memory shared.now.params) first.now.access.now × IsProper (first_memory shared.now.params) second.now.access.now × IsReadyPass shared.now pass.now }
             ensures { IsSamePass shared.entry.now pass.entry.now pass.exit.now }
         {
-            let thread = pass.thread();
-            let a = if thread == 0 { first } else { second };
-            shared.access(rt, pass, 0, a, &mut Draw::new(3, thread));
+            let row = if pass.thread() == 0 { first } else { second };
+            access_once(rt, alloc, shared, pass, row);
         },
     );
 }
@@ -125,35 +154,50 @@ fn each_once<R: Threads + Wait + Sync>(
     alloc: Global,
     p: &Program,
     threads: usize,
-    first: &Access,
-    second: &Access,
+    first: &Row<'_>,
+    second: &Row<'_>,
 ) -> Result<Journal, NoMemory>
     requires some { 0 < threads }
     requires few_na { length p.now.na ≤ 16 }
     requires few_atomic { length p.now.atomic ≤ 16 }
     requires two { length p.now.threads ≡ 2 }
-    requires first { IsProper (first_memory (params_for p.now 8)) first.now }
-    requires second { IsProper (first_memory (params_for p.now 8)) second.now }
+    requires first { IsProper (first_memory (params_for p.now 8)) first.now.access.now }
+    requires second { IsProper (first_memory (params_for p.now 8)) second.now.access.now }
 {
     let (shared, mut passes) = Shared::<PlainMemory>::make(alloc, p, 8)?;
-    access_each(rt, &shared, passes.lent(), threads, first, second);
+    access_each(rt, alloc, &shared, passes.lent(), threads, first, second);
     Ok(shared.close(passes))
 }
 
-/// The journal of one access of each thread of store buffering, in so many threads.
+/// The journal of one access of each thread of store buffering, in so many threads, where each was answered as wanted.
 fn row<R: Threads + Wait + Sync>(
     rt: &R,
     alloc: Global,
     threads: usize,
-    first: &Access,
-    second: &Access,
+    first: (&Access, Answer),
+    second: (&Access, Answer),
 ) -> Result<Journal, Fail> {
     let p = store_buffering(alloc)?;
     let small = p.na.len() <= 16 && p.atomic.len() <= 16 && p.threads.len() == 2;
-    if !small || threads == 0 || !is_proper(&p, first) || !is_proper(&p, second) {
+    if !small || threads == 0 || !is_proper(&p, first.0) || !is_proper(&p, second.0) {
         return Err("no such row".into());
     }
-    Ok(each_once(rt, alloc, &p, threads, first, second)?)
+    let (one, other) = (AtomicU64::new(0), AtomicU64::new(0));
+    let first = Row {
+        access: first.0,
+        wanted: first.1,
+        right: &one,
+    };
+    let second = Row {
+        access: second.0,
+        wanted: second.1,
+        right: &other,
+    };
+    let journal = each_once(rt, alloc, &p, threads, &first, &second)?;
+    if one.load(Ordering::SeqCst) + other.load(Ordering::SeqCst) != 2 {
+        return Err("another answer".into());
+    }
+    Ok(journal)
 }
 
 const WRITE: Access = Access::Write {
@@ -168,63 +212,83 @@ const READ: Access = Access::Read {
 };
 
 /// The write of thread 0, whatever came before it.
-fn wrote() -> Entry {
-    let event = Event::Write {
-        y: 0,
-        order: Order::Rlx,
-        v: Val::Def(1),
-        from: 1048576,
-        to: 2097152,
-    };
+const WROTE: Event = Event::Write {
+    y: 0,
+    order: Order::Rlx,
+    v: Val::Def(1),
+    from: 1048576,
+    to: 2097152,
+};
+
+/// The read of thread 1, which takes the first message whether or not there is a second.
+const FOUND_FIRST: Event = Event::Read {
+    y: 0,
+    order: Order::Rlx,
+    v: Val::Def(0),
+    to: 0,
+};
+
+/// The entry of a thread that has made nothing else.
+fn entry(thread: u32, event: Event) -> Entry {
     Entry {
-        thread: 0,
+        thread,
         silent: 0,
         event,
     }
 }
 
-/// The read of thread 1, which takes the first message whether or not there is a second.
-fn found_first() -> Entry {
-    let event = Event::Read {
-        y: 0,
-        order: Order::Rlx,
-        v: Val::Def(0),
-        to: 0,
-    };
-    Entry {
-        thread: 1,
-        silent: 0,
-        event,
-    }
+/// The journal of the write and the read.
+fn written_and_read<R: Threads + Wait + Sync>(
+    rt: &R,
+    alloc: Global,
+    threads: usize,
+) -> Result<Journal, Fail> {
+    row(
+        rt,
+        alloc,
+        threads,
+        (&WRITE, Answer::Done { event: WROTE }),
+        (&READ, Answer::Done { event: FOUND_FIRST }),
+    )
 }
 
 /// A write, and a read of an older message, by one thread.
 #[test]
 fn a_write_and_a_stale_read(rt: HostRuntime) -> Result<(), Fail> {
-    let journal = row(&rt, rt.alloc(), 1, &WRITE, &READ)?;
-    let want = [wrote(), found_first()];
+    let journal = written_and_read(&rt, rt.alloc(), 1)?;
+    let want = [entry(0, WROTE), entry(1, FOUND_FIRST)];
     assert!(rt; journal.entries.as_slice() == want.as_slice());
     Ok(())
 }
 
-/// Each pass in a thread of its own: the journal has the same entries, in either order.
+/// Each pass in a thread of its own: the answers are the same, and the journal has the same entries, in either order.
 #[test]
 fn each_pass_in_a_thread_of_its_own(rt: HostRuntime) -> Result<(), Fail> {
-    let journal = row(&rt, rt.alloc(), 2, &WRITE, &READ)?;
-    let (want, other) = ([wrote(), found_first()], [found_first(), wrote()]);
+    let journal = written_and_read(&rt, rt.alloc(), 2)?;
+    let (wrote, found) = (entry(0, WROTE), entry(1, FOUND_FIRST));
+    let (want, other) = ([wrote, found], [found, wrote]);
     let entries = journal.entries.as_slice();
     assert!(rt; entries == want.as_slice() || entries == other.as_slice());
     Ok(())
 }
 
-/// After a failure nobody makes an access.
+/// After a failure nobody makes an access: the other is told where the failure stands, and has no call of its own.
 #[test]
 fn a_failure_stops_the_others(rt: HostRuntime) -> Result<(), Fail> {
     let failing = Access::Fail {
         cause: Cause::Print,
     };
-    let journal = row(&rt, rt.alloc(), 1, &failing, &READ)?;
-    assert_eq!(rt; journal.entries.len(), 1);
-    assert!(rt; journal.entries[0].event.is_failure());
+    let failed = Event::Fail {
+        cause: Cause::Print,
+    };
+    let journal = row(
+        &rt,
+        rt.alloc(),
+        1,
+        (&failing, Answer::Done { event: failed }),
+        (&READ, Answer::Stopped { place: 0 }),
+    )?;
+    let want = [entry(0, failed)];
+    assert!(rt; journal.entries.as_slice() == want.as_slice());
     Ok(())
 }

@@ -1,0 +1,7 @@
+mod Placed
+mod Parts
+mod Walked
+mod Accepting
+mod Best
+mod Dead
+mod Chains
