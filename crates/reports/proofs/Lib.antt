@@ -1,5 +1,6 @@
 mod Chains
 mod Lifts
+mod Tidying
 mod SourceFits
 mod ReadBack
 mod Endings
