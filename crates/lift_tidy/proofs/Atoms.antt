@@ -16,7 +16,7 @@ use Rattle.il_syntax.specs.Statements.{Head}
 use Rattle.thread_core.specs.declared.next.Next.TheVariants as next
 use Rattle.thread_core.specs.Frames.{evaluated, evaluated_kind, decided, computed, next_print, next_at}
 use Rattle.il_paths.specs.Atoms.{atoms_equal}
-use Rattle.tidy.specs.Atoms.{is_among, atoms_of_update, atoms_in, update_with, with_atoms}
+use Rattle.tidy.specs.Atoms.{among_atoms, atoms_of_update, atoms_in, update_with, with_atoms}
 use Rattle.tidy.specs.Accepts.{StandsFor, same, known_for}
 use Rattle.il_paths.proofs.Callers.{atoms_equal-refl}
 
@@ -34,13 +34,13 @@ module _ (ts ss : List Val) where
     stands a b (same e) h = atom_agrees b h ∙ ap (evaluated ss) (sym e)
     stands a b (known_for r e k) h = atom_agrees b h ∙ sym (holds r b k) ∙ ap (evaluated ss) (sym e)
 
-    pub all_stand : (xs bs : List Atom) → AllZip (StandsFor known) xs bs → ((k : ℕ) → is_among k bs ≡ true → evaluated ts (Reg k) ≡ evaluated ss (Reg k)) → AllZip (HasValueOf ts ss) xs bs
+    pub all_stand : (xs bs : List Atom) → AllZip (StandsFor known) xs bs → ((k : ℕ) → among_atoms k bs ≡ true → evaluated ts (Reg k) ≡ evaluated ss (Reg k)) → AllZip (HasValueOf ts ss) xs bs
     all_stand [] [] z h = tt
     all_stand [] (b ∷ bs) z h = absurd z
     all_stand (a ∷ xs) [] z h = absurd z
     all_stand (a ∷ xs) (b ∷ bs) z h = (
-      stands a b z.0 (λ k e. h k (or_left (atoms_equal b (Reg k)) (is_among k bs) e)),
-      all_stand xs bs z.1 (λ k e. h k (or_right (atoms_equal b (Reg k)) (is_among k bs) e)),
+      stands a b z.0 (λ k e. h k (or_left (atoms_equal b (Reg k)) (among_atoms k bs) e)),
+      all_stand xs bs z.1 (λ k e. h k (or_right (atoms_equal b (Reg k)) (among_atoms k bs) e)),
     )
 
   -- the first atom of a list, and the second

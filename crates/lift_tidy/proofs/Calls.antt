@@ -14,9 +14,9 @@ use Rattle.il_paths.specs.Code.{Code, End, placed}
 use Rattle.il_paths.specs.Paths.{IsPath, ends, RunsTo, here}
 use Rattle.thread_core.specs.Programs.{function_at, body_in, code_of}
 use Rattle.thread_core.specs.Frames.{Frame, blank, loaded, evaluated, called, function_result}
-use Rattle.tidy.specs.Known.{known_at_entry, KnownAtEnd}
+use Rattle.tidy.specs.Known.{known_at_entry, IsKnownAtEnd}
 use Rattle.tidy.specs.Live.{is_result}
-use Rattle.tidy.specs.Beside.{Beside}
+use Rattle.tidy.specs.SameSites.{SameSites}
 use Rattle.il_paths.proofs.Callers.{atoms_equal-true}
 use Rattle.tidy.proofs.Callers.{placed_beside, known_at_end}
 use Rattle.lift_tidy.specs.Functions.{TidiedFunction}
@@ -61,8 +61,8 @@ module _ {source target : Program} (k : ℕ) (f : TidiedFunction source target k
         target_path = [];
         source_run = subst (RunsTo (placed 0 (tree_of f.old.body)) []) (sym es) here;
         target_run = subst (RunsTo (placed 0 (tree_of f.new.body)) []) (sym et) here;
-        beside = subst (λ (c : Code). Beside c (code_of target k)) (sym es)
-            (subst (λ (c : Code). Beside (placed 0 (tree_of f.old.body)) c) (sym et) (placed_beside 0 (tree_of f.old.body) (tree_of f.new.body) f.accepted.blocks));
+        beside = subst (λ (c : Code). SameSites c (code_of target k)) (sym es)
+            (subst (λ (c : Code). SameSites (placed 0 (tree_of f.old.body)) c) (sym et) (placed_beside 0 (tree_of f.old.body) (tree_of f.new.body) f.accepted.blocks));
         known = zero_there;
         live = λ r q is w. refl;
       }
@@ -75,7 +75,7 @@ result_is p k f frame e there =
 pub one_result : {source target : Program} {t s : Frame} (h : FramesTidied source target t s) → s.continuation ≡ End → t.continuation ≡ End → function_result target t ≡ function_result source s
 one_result {source} {target} {t} {s} h es et =
     result_is target h.number h.function.new t h.target_function h.function.target_has
-    ∙ stands t.registers s.registers (KnownAtEnd h.function.old)
+    ∙ stands t.registers s.registers (IsKnownAtEnd h.function.old)
     (λ r a k. h.known r a (known_at_end h.function.old h.source_path r a (subst (RunsTo (placed 0 (tree_of h.function.old.body)) h.source_path) es h.source_run) k))
     h.function.old.result h.function.new.result h.function.accepted.result
     (λ k e. h.live k [] (subst (λ (c : Code). IsPath c []) (sym et) ends) (is_result (atoms_equal-true h.function.new.result (Reg k) e)))

@@ -16,10 +16,10 @@ use Rattle.il_paths.proofs.Callers.{path_runs, runs_path, step_runs, some_path, 
 use Rattle.thread_core.specs.Frames.{Frame, evaluated}
 use Rattle.thread_core.proofs.Callers.{set_others}
 use Rattle.il_paths.specs.Atoms.{atoms_equal}
-use Rattle.tidy.specs.Atoms.{reads}
+use Rattle.tidy.specs.Atoms.{reads_register}
 use Rattle.tidy.specs.Known.{makes, touches, known_after}
 use Rattle.tidy.specs.Live.{IsWanted, is_read, is_kept}
-use Rattle.tidy.specs.Beside.{Beside}
+use Rattle.tidy.specs.SameSites.{SameSites}
 use Rattle.tidy.proofs.Callers.{one_more, known_more}
 use Rattle.lift_tidy.specs.Frames.{KnownHolds, FramesTidied}
 
@@ -79,13 +79,13 @@ not_false false e = refl
 -- ---- the call
 
 module _ {source target : Program} {t s : Frame} (h : FramesTidied source target t s) (u v : Visit) (next_s : first s.continuation ≡ Some u) (next_t : first t.continuation ≡ Some v)
-    (beside : (d : Bool) → Beside (go s.continuation d) (go t.continuation d)) where
+    (beside : (d : Bool) → SameSites (go s.continuation d) (go t.continuation d)) where
   -- a path of what comes after is one from here
   from_here : (d : Bool) (q : List Visit) → IsPath (go t.continuation d) q → IsPath t.continuation (v ∷ q)
   from_here d q is = runs_path (step_runs t.continuation End v q d next_t (path_runs is))
 
   -- what the target's statement reads has one value
-  pub read_agrees : (k : ℕ) → reads k v.head ≡ true → evaluated t.registers (Reg k) ≡ evaluated s.registers (Reg k)
+  pub read_agrees : (k : ℕ) → reads_register k v.head ≡ true → evaluated t.registers (Reg k) ≡ evaluated s.registers (Reg k)
   read_agrees k e = let some = some_path (go t.continuation true) in h.live k (v ∷ some.0) (from_here true some.0 some.1) (is_read e)
 
   known_on : (ss : List Val) → KeepsOthers (gives u.head) s.registers ss → ((r : ℕ) (a : Atom) → makes r a u.head ≡ true → evaluated ss (Reg r) ≡ evaluated ss a) → KnownHolds h.function.old (h.source_path ++ u ∷ []) ss

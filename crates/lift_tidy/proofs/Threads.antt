@@ -31,11 +31,11 @@ use Rattle.thread_core.specs.Steps.{IsProperFrame, IsProperStack}
 use Rattle.thread_core.specs.Asking.{ends_by}
 use Rattle.thread_core.specs.Frames.{Frame, Stack, evaluated, evaluated_kind, holds, decided, computed, deepened, next_print, ended, next_at, next_after, next_of, passed, gave, assigned, call_register, received_by, received_at, received, function_result, returned, advanced_at, advanced, target as register_of, target_of, given_by, told, resumed, called}
 use Rattle.il_paths.specs.Atoms.{atoms_equal}
-use Rattle.tidy.specs.Atoms.{atoms_in, with_atoms, is_among}
-use Rattle.tidy.specs.Known.{makes, Known}
-use Rattle.tidy.specs.Live.{Live}
+use Rattle.tidy.specs.Atoms.{atoms_in, with_atoms, among_atoms}
+use Rattle.tidy.specs.Known.{makes, IsKnown}
+use Rattle.tidy.specs.Live.{IsLive}
 use Rattle.tidy.specs.Accepts.{StandsFor, StatementAccepted, same_but_atoms, is_folded, is_left, assigned_register}
-use Rattle.tidy.specs.Beside.{Beside}
+use Rattle.tidy.specs.SameSites.{SameSites}
 use Rattle.tidy.proofs.Callers.{reads_put, gives_put, AtHead, at_end, at_visits, at_head, head_next, no_head, ends_code, next_accepted, known_here, unwanted_here}
 use Rattle.lift_tidy.specs.Functions.{TidiedFunction, AllTidied}
 use Rattle.lift_tidy.specs.Frames.{FramesTidied}
@@ -131,7 +131,7 @@ some_of (Some a) P h = (a, refl, h)
 -- ---- a call at a statement
 
 module _ {source target : Program} {t s : Frame} (h : FramesTidied source target t s) (proper : IsProperFrame source s) (u v : Visit) (next_s : first s.continuation ≡ Some u) (next_t : first t.continuation ≡ Some v)
-    (site : v.site ≡ u.site) (beside : (d : Bool) → Beside (go s.continuation d) (go t.continuation d)) where
+    (site : v.site ≡ u.site) (beside : (d : Bool) → SameSites (go s.continuation d) (go t.continuation d)) where
   here_proper : IsProperHead source 64 u.head
   here_proper = all_first (IsProperHead source 64) s.continuation u.head proper (head_next s.continuation u next_s)
 
@@ -146,26 +146,26 @@ module _ {source target : Program} {t s : Frame} (h : FramesTidied source target
       both_put h u v next_s next_t beside d (gives head) w (ap gives eu) (one ∙ ap gives eu) (given_here head eu) (λ r a m. made r a (sym (ap (makes r a) eu) ∙ m))
 
   -- what the target leaves
-  left_here : (r : ℕ) → assigned_register u.head ≡ Some r → v.head ≡ Skip → (Live h.function.new u.site r → ⊥) → (ss : List Val) → length ss ≡ 64 → KeepsOthers (gives u.head) s.registers ss
+  left_here : (r : ℕ) → assigned_register u.head ≡ Some r → v.head ≡ Skip → (IsLive h.function.new u.site r → ⊥) → (ss : List Val) → length ss ≡ 64 → KeepsOthers (gives u.head) s.registers ss
       → ((k : ℕ) (a : Atom) → makes k a u.head ≡ true → evaluated ss (Reg k) ≡ evaluated ss a)
       → FramesTidied source target (record t { continuation = go t.continuation true }) (record s { registers = ss; continuation = go s.continuation true })
   left_here r e skips dead ss whole others made =
       after h u v next_s next_t beside true t.registers ss h.target_whole whole others made (λ a n. refl) (λ k f. absurd (none-some k (sym (ap gives skips) ∙ f)))
       (λ k q is w n f.
       unwanted_here h.function.old h.function.new h.function.accepted h.source_path h.target_path s.continuation t.continuation u v h.source_run h.target_run next_s next_t site k
-      (subst (λ (i : ℕ). Live h.function.new u.site i → ⊥) (same_Some r k (sym (left_gives u.head r e) ∙ f)) dead) true q is w)
+      (subst (λ (i : ℕ). IsLive h.function.new u.site i → ⊥) (same_Some r k (sym (left_gives u.head r e) ∙ f)) dead) true q is w)
 
   accepted : StatementAccepted h.function.old h.function.new u.site u.head v.head
   accepted = next_accepted h.function.old h.function.new h.function.accepted h.source_path h.target_path s.continuation t.continuation u v h.source_run h.target_run next_s next_t site
 
-  holds_here : (r : ℕ) (a : Atom) → Known h.function.old u.site r a → evaluated s.registers (Reg r) ≡ evaluated s.registers a
+  holds_here : (r : ℕ) (a : Atom) → IsKnown h.function.old u.site r a → evaluated s.registers (Reg r) ≡ evaluated s.registers a
   holds_here r a k = h.known r a (known_here h.function.old h.function.new h.function.accepted h.source_path h.target_path s.continuation t.continuation u v h.source_run h.target_run next_s next_t site r a k)
 
   -- the target's atoms have the values of the source's
-  values_here : (atoms : List Atom) → AllZip (StandsFor (Known h.function.old u.site)) (atoms_in u.head) atoms → v.head ≡ with_atoms u.head atoms → AllZip (HasValueOf t.registers s.registers) (atoms_in u.head) atoms
+  values_here : (atoms : List Atom) → AllZip (StandsFor (IsKnown h.function.old u.site)) (atoms_in u.head) atoms → v.head ≡ with_atoms u.head atoms → AllZip (HasValueOf t.registers s.registers) (atoms_in u.head) atoms
   values_here atoms z e =
-      all_stand t.registers s.registers (Known h.function.old u.site) holds_here (atoms_in u.head) atoms z
-      (λ k q. read_agrees h u v next_s next_t beside k (ap (is_among k) (ap atoms_in e ∙ reads_put (StandsFor (Known h.function.old u.site)) u.head atoms z) ∙ q))
+      all_stand t.registers s.registers (IsKnown h.function.old u.site) holds_here (atoms_in u.head) atoms z
+      (λ k q. read_agrees h u v next_s next_t beside k (ap (among_atoms k) (ap atoms_in e ∙ reads_put (StandsFor (IsKnown h.function.old u.site)) u.head atoms z) ∙ q))
 
   -- a result is taken
   received_same : (head : Head) (atoms : List Atom) → u.head ≡ head → gives v.head ≡ gives u.head → (w : Val) → FramesTidied source target (received_by t w (call_register (with_atoms head atoms))) (received_by s w (call_register head))
@@ -237,7 +237,7 @@ module _ {source target : Program} (all : AllTidied source target) {t s : Stack}
   depths : dt ≡ ds
   depths = ap (λ (n : ℕ). 1 + n) (same_lengths (FramesTidied source target) t.callers s.callers h.callers)
 
-  module _ (u v : Visit) (next_s : first s.top.continuation ≡ Some u) (next_t : first t.top.continuation ≡ Some v) (site : v.site ≡ u.site) (beside : (d : Bool) → Beside (go s.top.continuation d) (go t.top.continuation d)) where
+  module _ (u v : Visit) (next_s : first s.top.continuation ≡ Some u) (next_t : first t.top.continuation ≡ Some v) (site : v.site ≡ u.site) (beside : (d : Bool) → SameSites (go s.top.continuation d) (go t.top.continuation d)) where
     -- by the heads of the two statements
     module _ (old new : Head) (eu : u.head ≡ old) (ev : v.head ≡ new) where
       in_s : first_head s.top.continuation ≡ Some old
@@ -364,7 +364,7 @@ module _ {source target : Program} (all : AllTidied source target) {t s : Stack}
           callee_begins = begins f pair (map (evaluated ss) args) (length-map args (evaluated ss) ∙ there.2 ∙ ap (λ (g : Function). g.params) (same_Some there.0 pair.old (sym there.1 ∙ pair.source_has)))
 
     -- a computation that the target has done
-    folded_step : (k : ℕ) (op : Op) (a b : Atom) (m n x : ℤ) → u.head ≡ Compute k op a b → v.head ≡ Copy k (Const x) → StandsFor (Known h.top.function.old u.site) a (Const m) → StandsFor (Known h.top.function.old u.site) b (Const n) → result_of op (Def m) (Def n) ≡ Some (Def x)
+    folded_step : (k : ℕ) (op : Op) (a b : Atom) (m n x : ℤ) → u.head ≡ Compute k op a b → v.head ≡ Copy k (Const x) → StandsFor (IsKnown h.top.function.old u.site) a (Const m) → StandsFor (IsKnown h.top.function.old u.site) b (Const n) → result_of op (Def m) (Def n) ≡ Some (Def x)
         → TidiedGoOn source target t s
     folded_step k op a b m n x eu ev sa sb e =
         silently (Compute k op a b) (Copy k (Const x)) eu ev refl (ap computed result) (record {
@@ -372,24 +372,24 @@ module _ {source target : Program} (all : AllTidied source target) {t s : Stack}
           callers = h.callers;
         })
       where
-        constant : (c : Atom) (i : ℤ) → StandsFor (Known h.top.function.old u.site) c (Const i) → Def i ≡ evaluated ss c
-        constant c i k = stands ts ss (Known h.top.function.old u.site) (holds_here h.top proper.top u v next_s next_t site beside) c (Const i) k (λ j e. absurd (false≢true e))
+        constant : (c : Atom) (i : ℤ) → StandsFor (IsKnown h.top.function.old u.site) c (Const i) → Def i ≡ evaluated ss c
+        constant c i k = stands ts ss (IsKnown h.top.function.old u.site) (holds_here h.top proper.top u v next_s next_t site beside) c (Const i) k (λ j e. absurd (false≢true e))
 
         result : result_of op (evaluated ss a) (evaluated ss b) ≡ Some (Def x)
         result = (λ i. result_of op (sym (constant a m sa) i) (sym (constant b n sb) i)) ∙ e
 
     -- an assignment that the target leaves
-    left_put : (head : Head) (k : ℕ) (w : Val) → u.head ≡ head → assigned_register head ≡ Some k → v.head ≡ Skip → (Live h.top.function.new u.site k → ⊥)
+    left_put : (head : Head) (k : ℕ) (w : Val) → u.head ≡ head → assigned_register head ≡ Some k → v.head ≡ Skip → (IsLive h.top.function.new u.site k → ⊥)
         → ((r : ℕ) (a : Atom) → makes r a head ≡ true → evaluated (put ss (Some k) w) (Reg r) ≡ evaluated (put ss (Some k) w) a) → FramesTidied source target (passed t.top true) (gave s.top k w)
     left_put head k w eu e ev dead made =
         left_here h.top proper.top u v next_s next_t site beside k (ap assigned_register eu ∙ e) ev dead (put ss (Some k) w) (length-put ss (Some k) w ∙ h.top.source_whole)
         (subst (λ (o : Option ℕ). KeepsOthers o ss (put ss (Some k) w)) (sym (ap gives eu ∙ left_gives head k e)) (put_others ss (Some k) w))
         (λ r a m. made r a (sym (ap (makes r a) eu) ∙ m))
 
-    left_step : (head : Head) (k : ℕ) → u.head ≡ head → assigned_register head ≡ Some k → v.head ≡ Skip → (Live h.top.function.new u.site k → ⊥) → TidiedGoOn source target t s
+    left_step : (head : Head) (k : ℕ) → u.head ≡ head → assigned_register head ≡ Some k → v.head ≡ Skip → (IsLive h.top.function.new u.site k → ⊥) → TidiedGoOn source target t s
     left_step (Copy j a) k eu e ev dead =
         silently (Copy j a) Skip eu ev refl refl (record {
-          top = left_put (Copy j a) j (evaluated ss a) eu refl ev (subst (λ (i : ℕ). Live h.top.function.new u.site i → ⊥) (sym (same_Some j k e)) dead)
+          top = left_put (Copy j a) j (evaluated ss a) eu refl ev (subst (λ (i : ℕ). IsLive h.top.function.new u.site i → ⊥) (sym (same_Some j k e)) dead)
               (λ r b m. copied ss j a r b (let l = given_here h.top proper.top u v next_s next_t site beside (Copy j a) eu j refl in omega (arith, l, h.top.source_whole)) m);
           callers = h.callers;
         })
@@ -398,7 +398,7 @@ module _ {source target : Program} (all : AllTidied source target) {t s : Stack}
         (λ (r : (w : Val) × (result_of op (evaluated ss a) (evaluated ss b) ≡ Some w)).
         silently (Compute j op a b) Skip eu ev refl (ap computed r.1) (record {
           top = subst (λ (o : Option Val). FramesTidied source target (passed t.top true) (assigned s.top j o)) (sym r.1)
-              (left_put (Compute j op a b) j r.0 eu refl ev (subst (λ (i : ℕ). Live h.top.function.new u.site i → ⊥) (sym (same_Some j k e)) dead) (λ i c m. absurd (false≢true m)));
+              (left_put (Compute j op a b) j r.0 eu refl ev (subst (λ (i : ℕ). IsLive h.top.function.new u.site i → ⊥) (sym (same_Some j k e)) dead) (λ i c m. absurd (false≢true m)));
           callers = h.callers;
         }))
         (λ (f : result_of op (evaluated ss a) (evaluated ss b) ≡ None).
@@ -410,7 +410,7 @@ module _ {source target : Program} (all : AllTidied source target) {t s : Stack}
         subst (λ (o : Option Head). StacksTidied source target (advanced_at target t o) (resumed s (event.NaRead x w))) (sym (in_t (Load j x) Skip eu ev))
         (subst (λ (o : Option Head). StacksTidied source target (advanced_at target t (Some Skip)) (record s { top = told s.top (target_of o) (Some w) })) (sym (in_s (Load j x) Skip eu ev))
         (record {
-          top = left_put (Load j x) j w eu refl ev (subst (λ (i : ℕ). Live h.top.function.new u.site i → ⊥) (sym (same_Some j k e)) dead) (λ i c m. absurd (false≢true m));
+          top = left_put (Load j x) j w eu refl ev (subst (λ (i : ℕ). IsLive h.top.function.new u.site i → ⊥) (sym (same_Some j k e)) dead) (λ i c m. absurd (false≢true m));
           callers = h.callers;
         })))
     left_step Skip k eu e ev dead = absurd (none-some k e)

@@ -1,5 +1,5 @@
 -- What the last program of a chain is tidied to, and how its journals are lifted to the first.
-use Rattle.std.proofs.Common.{◌≡◌, ◌∙◌, Bool, true, false, not, ◌&&◌, ◌==◌, ℕ, List, [], ◌∷◌, length, refl, sym, ap, arith, ⊎_elim}
+use Rattle.std.proofs.Common.{◌≡◌, ◌∙◌, Bool, true, false, not, ◌&&◌, ◌==◌, ℕ, List, [], ◌∷◌, length, Result, Ok, Err, IfOk, refl, sym, ap, subst, arith, ⊎_elim}
 use Rattle.std.proofs.lemmas.Bool.{both_ways, cases_Bool}
 use Rattle.std.specs.List.{AllZip}
 use Rattle.values_undef.specs.Journal.{last_fails}
@@ -13,20 +13,29 @@ use Rattle.refinement.specs.Playings.{AreFew}
 use Rattle.refinement.proofs.Callers.{refines_trans, failures_kept, runs_stop, failing_ends}
 use Rattle.simulation.specs.Conditions.{IsLifted, have_equal_counts}
 use Rattle.tidy.specs.Accepts.{TidyAccepts}
-use Rattle.tidy.specs.Programs.{IsTidiedProgram}
-use Rattle.tidy.proofs.Callers.{programs_are_accepted}
+use Rattle.tidy.specs.Programs.{IsTidiedProgram, TidiedProgramsAreAccepted}
 use Rattle.lift_tidy.specs.Lifted.{IsTidyTarget, IsTidyLifted}
+use Rattle.pass_chain.specs.declared.chains.ProgramChain.{ProgramChain}
+use Rattle.reports.specs.Targets.{IsTidiedOf, target_program}
 
--- a tidied program is one whose journals can be lifted
-pub tidy_target : (p q : Program) → IsWellFormed p → IsWellFormed q → IsTidiedProgram p q → IsTidyTarget p q
-tidy_target p q v w t = record {
+-- journals of a tidied program can be lifted
+tidy_target : (p q : Program) → TidiedProgramsAreAccepted → IsWellFormed p → IsWellFormed q → IsTidiedProgram p q → IsTidyTarget p q
+tidy_target p q accepted v w t = record {
   source_well_formed = v;
   target_well_formed = w;
   na = t.na;
   atomic = t.atomic;
   threads = t.threads;
-  functions = programs_are_accepted p q t;
+  functions = accepted p q t;
 }
+
+-- the last program of the chain, tidied
+pub tidied_of : {E : Type 0} (c : ProgramChain) (last : Program) (r : Result Program E) → last ≡ target_program c → TidiedProgramsAreAccepted → IsWellFormed (target_program c) → IfOk r (λ q. IsTidiedProgram last q) → IfOk r (λ q. IsWellFormed q)
+    → IfOk r (λ q. IsTidiedOf c q)
+tidied_of c last (Err e) same accepted v t w = tt
+tidied_of c last (Ok q) same accepted v t w =
+    let made = subst (λ (p : Program). IsTidiedProgram p q) same t in
+    record { made = made; accepted = tidy_target (target_program c) q accepted v w made }
 
 -- its functions have as many registers
 same_counts : (fs gs hs : List Function) → AllZip TidyAccepts gs hs → have_equal_counts fs hs ≡ have_equal_counts fs gs

@@ -17,14 +17,17 @@ use message_memory::MessageMemory;
 use pass_chain::ProgramChain;
 use simulation::lift_chain;
 use std::alloc::Global;
+use tidy::laws::programs_are_accepted;
 use tidy::tidy_program;
 use values_undef::{Journal, NoMemory};
 
 /// The last program of a chain, tidied. The only error is want of memory.
+#[tactic(auto, using(crate::proofs::Tidying::tidied_of))]
 pub fn tidied_target(alloc: Global, chain: &ProgramChain) -> Result<Program, NoMemory>
     requires { IsWellFormed (target_program chain.now) }
     ensures { IfOk result (λ q. IsTidiedOf chain.now q) }
 {
+    programs_are_accepted();
     tidy_program(alloc, target(chain))
 }
 
