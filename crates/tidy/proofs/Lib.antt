@@ -9,6 +9,10 @@ mod Mapped
 mod Cleared
 mod Acceptance
 mod LeastLaws
+mod Unique
+mod DecidedLaws
+mod HeadsListed
+mod JudgeLaws
 mod Counts
 mod Fits
 mod ProgramLaws

@@ -3,6 +3,7 @@
 use Rattle.std.specs.Prelude.{◌≡◌, ◌<◌, MatchOption, slice_get, ℕ, ℤ, Bool, true, false, not, ◌&&◌, ◌||◌, ◌==◌, List, [], ◌∷◌, Option, Some, None, slice_index_or}
 use Rattle.std.specs.Option.{option_map_or}
 use Rattle.std.specs.Ordering.{int_eq}
+use Rattle.std.specs.Str.{bytes_eq}
 use Rattle.values_undef.specs.Arithmetic.{result_of}
 use Rattle.values_undef.specs.declared.arithmetic.Op.{Op}
 use Rattle.values_undef.specs.declared.value.Val.{Val}
@@ -10,9 +11,11 @@ use Rattle.values_undef.specs.declared.value.Val.TheVariants.{Def, Undef}
 use Rattle.il_syntax.specs.declared.statement.Atom.{Atom}
 use Rattle.il_syntax.specs.declared.statement.Atom.TheVariants.{Const, Reg}
 use Rattle.il_syntax.specs.declared.statement.Stmt.TheOpen.{Copy, Compute}
-use Rattle.il_syntax.specs.Statements.{Head}
+use Rattle.il_syntax.specs.declared.statement.Stmt.{Stmt}
+use Rattle.il_syntax.specs.declared.program.Function.{Function}
+use Rattle.il_syntax.specs.Statements.{Head, head_of}
 use Rattle.il_paths.specs.Atoms.{atoms_equal}
-use Rattle.il_paths.specs.Tree.{Tree, Empty, Then, IfThen, WhileThen}
+use Rattle.il_paths.specs.Tree.{Tree, Empty, Then, IfThen, WhileThen, tree_of}
 use Rattle.rewriting.specs.Heads.{is_skip, same_head}
 use Rattle.location_sets.specs.Sets.{has}
 use Rattle.tidy.specs.declared.known.KnownPair.{KnownPair}
@@ -85,12 +88,27 @@ same_blocks (IfThen a yes_block no_block rest) (IfThen b yes_other no_other more
 same_blocks (WhileThen a body rest) (WhileThen b other more) = same_blocks body other && same_blocks rest more
 same_blocks _ _ = false
 
--- the statements at a site, of two lists in text order, by the row before it and the set after it
-abbrev pub AcceptedIn : List (List KnownPair) → List (List ℕ) → List Head → List Head → ℕ → Type 0
-AcceptedIn rows sets olds news site =
-    (old new : Head) → slice_get olds site ≡ Some old → slice_get news site ≡ Some new → statement_accepted (slice_index_or rows site []) (slice_index_or sets site []) old new ≡ true
+-- name by name
+abbrev pub names_equal : List (List ℕ) → List (List ℕ) → Bool
+names_equal [] [] = true
+names_equal [] (b ∷ bs) = false
+names_equal (a ∷ more) [] = false
+names_equal (a ∷ more) (b ∷ bs) = bytes_eq a b && names_equal more bs
 
--- the first number below a bound that is not accepted
-abbrev pub IsFirstRefused : (ℕ → Type 0) → ℕ → Option ℕ → Type 0
+abbrev pub same_frame : Function → Function → Bool
+same_frame f g = bytes_eq f.name g.name && ((f.params == g.params) && (names_equal f.registers g.registers && same_blocks (tree_of f.body) (tree_of g.body)))
+
+-- the statements at a site, if there are two
+abbrev pub pair_accepted : List KnownPair → List ℕ → Option Stmt → Option Stmt → Bool
+pair_accepted row live (Some old) (Some new) = statement_accepted row live (head_of old) (head_of new)
+pair_accepted row live (Some old) None = true
+pair_accepted row live None new = true
+
+-- by the row before the site and the set after it
+abbrev pub accepted_in : List (List KnownPair) → List (List ℕ) → List Stmt → List Stmt → ℕ → Bool
+accepted_in rows sets olds news site = pair_accepted (slice_index_or rows site []) (slice_index_or sets site []) (slice_get olds site) (slice_get news site)
+
+-- the first number below a bound that fails the test
+abbrev pub IsFirstRefused : (ℕ → Bool) → ℕ → Option ℕ → Type 0
 IsFirstRefused accepted count first =
-    MatchOption first ((site : ℕ) → site < count → accepted site) (λ site. (site < count) × ((earlier : ℕ) → earlier < site → accepted earlier) × (accepted site → ⊥))
+    MatchOption first ((site : ℕ) → site < count → accepted site ≡ true) (λ site. (site < count) × ((earlier : ℕ) → earlier < site → accepted earlier ≡ true) × (accepted site ≡ false))

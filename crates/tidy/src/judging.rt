@@ -1,11 +1,11 @@
 //! Whether a function accepts another, or where it first doesn't.
-ghost use Rattle.std.specs.Prelude.{◌≡◌, ◌↔◌, ◌≤◌, ◌&&◌, ◌++◌, IsTrue, map, length, slice_index_or, IfOk, OnOk};
+ghost use Rattle.std.specs.Prelude.{◌≡◌, ◌≤◌, ◌&&◌, ◌++◌, map, length, slice_index_or, IfOk, OnOk};
 ghost use Rattle.il_syntax.specs.Statements.{head_of, site_count};
 ghost use Rattle.il_paths.specs.Tree.{Tree, Empty, tree_of, before_rest, heads_in};
 ghost use Rattle.tidy.specs.Atoms.{update_with, with_atoms};
 ghost use Rattle.tidy.specs.Decided as decided;
-ghost use Rattle.tidy.specs.Decided.{AcceptedIn, IsFirstRefused};
-ghost use Rattle.tidy.specs.Judged.{SameFrame, IsTidiness};
+ghost use Rattle.tidy.specs.Decided.{IsFirstRefused};
+ghost use Rattle.tidy.specs.Judged.{IsTidiness};
 
 use crate::atoms::{are_equal, atoms_of};
 use crate::known::{KnownPair, Row, is_known, known_rows};
@@ -330,7 +330,7 @@ fn list_heads_by(alloc: Global, statement: &Stmt, heads: &mut Vec<Stmt>) -> Resu
 
 /// Whether the names are equal, one by one.
 fn same_names(names: &[Name], others: &[Name]) -> bool
-    ensures { IsTrue result ↔ (names.now ≡ others.now) }
+    ensures { result ≡ decided.names_equal names.now others.now }
 {
     match names {
         [] => match others {
@@ -346,7 +346,7 @@ fn same_names(names: &[Name], others: &[Name]) -> bool
 
 /// Whether names, parameters, registers and blocks are equal.
 fn same_frame(f: &Function, g: &Function) -> bool
-    ensures { IsTrue result ↔ SameFrame f.now g.now }
+    ensures { result ≡ decided.same_frame f.now g.now }
 {
     f.name.as_slice() == g.name.as_slice()
         && f.params == g.params
@@ -363,7 +363,7 @@ fn accepted_at(
     news: &[Stmt],
     site: u32,
 ) -> Result<bool, NoMemory>
-    ensures { IfOk result (λ b. IsTrue b ↔ AcceptedIn rows.now sets.now (map head_of olds.now) (map head_of news.now) site) }
+    ensures { IfOk result (λ b. b ≡ decided.accepted_in rows.now sets.now olds.now news.now site) }
 {
     let (Some(old), Some(new)) = (olds.get(site as usize), news.get(site as usize)) else {
         return Ok(true);
@@ -388,7 +388,7 @@ fn first_refused(
     news: &[Stmt],
     count: u32,
 ) -> Result<Option<u32>, NoMemory>
-    ensures { IfOk result (IsFirstRefused (AcceptedIn rows.now sets.now (map head_of olds.now) (map head_of news.now)) count) }
+    ensures { IfOk result (IsFirstRefused (decided.accepted_in rows.now sets.now olds.now news.now) count) }
 {
     for site in 0..count {
         if !accepted_at(alloc, rows, sets, olds, news, site)? {
