@@ -2,13 +2,13 @@
 _seqopt() {
   local word=${COMP_WORDS[COMP_CWORD]} options=
   if ((COMP_CWORD == 1)); then
-    options='check opt validate seq walk run replay gen'
+    options='check opt tidy validate seq walk run replay gen'
   elif [[ ${COMP_WORDS[COMP_CWORD - 1]} == --form ]]; then
     options='text summary'
   elif [[ $word == -* ]]; then
     case ${COMP_WORDS[1]} in
       seq) options='--function' ;;
-      walk) options='--order --picks --seed --steps' ;;
+      tidy | walk) options='--order --picks --seed --steps' ;;
       run) options='--seed --steps' ;;
       gen) options='--number --functions --form' ;;
     esac

@@ -53,8 +53,8 @@ is_chain p c o w n = record {
 }
 
 -- what was reported of a lift to the first program of a chain is so of one to the program that was given
-pub reported_of_given : (p : Program) (c : ProgramChain) (journal : List Entry) (out : List ℕ) (e : Ending) → IsChainOf p c → IsReported c.source (target_program c) journal out e → IsReported p (target_program c) journal out e
-reported_of_given p c journal out e is r = subst (λ (q : Program). IsReported q (target_program c) journal out e) is.first r
+pub reported_of_given : (p : Program) (c : ProgramChain) (target : Program) (journal : List Entry) (out : List ℕ) (e : Ending) → IsChainOf p c → IsReported c.source target journal out e → IsReported p target journal out e
+reported_of_given p c target journal out e is r = subst (λ (q : Program). IsReported q target journal out e) is.first r
 
 -- ---- the steps of a run that is complete for a budget
 

@@ -1,5 +1,7 @@
 mod Chains
 mod Lifts
+mod Tidying
+mod OneTarget
 mod SourceFits
 mod ReadBack
 mod Endings

@@ -9,6 +9,7 @@ use Rattle.view_machine.specs.Runs.{IsJournalRun}
 use Rattle.run_choices.specs.Complete.{IsComplete, has_spent}
 use Rattle.refinement.specs.Playings.{AreFew}
 use Rattle.replay_text.specs.Reading.{ReadsReplay}
+use Rattle.reports.specs.Targets.{IsOptimised, IsTidiedTarget}
 use Rattle.reports.specs.Runs.{ReportedRun, IsReportedRun, run_ending, run_report, source_ending, source_report}
 
 -- a report reads as its run
@@ -29,6 +30,10 @@ pub record TellsEnd (entries : List Entry) (threads : ℕ) (e : Ending) : Type 0
 
 abbrev pub EndingsTellTheEnd : Type 0
 EndingsTellTheEnd = (steps : ℕ) (r : ReportedRun) → IsReportedRun steps r → TellsEnd r.journal (length r.target.threads) (run_ending r)
+
+-- a program has one target of each kind
+abbrev pub TargetsAreOne : Type 0
+TargetsAreOne = (given one other : Program) → (IsOptimised given one → IsOptimised given other → one ≡ other) × (IsTidiedTarget given one → IsTidiedTarget given other → one ≡ other)
 
 -- the threads of a run that is complete for a budget have used few steps
 abbrev pub CompleteRunsAreFew : Type 0

@@ -1,5 +1,5 @@
 //! Laws on reports, each the contract of a function that does nothing.
-ghost use Rattle.reports.specs.Laws.{ReportsReadBack, SourceJournalsReadBack, EndingsTellTheEnd, CompleteRunsAreFew};
+ghost use Rattle.reports.specs.Laws.{ReportsReadBack, SourceJournalsReadBack, EndingsTellTheEnd, TargetsAreOne, CompleteRunsAreFew};
 
 /// A report reads as a run of the target, with its ending.
 pub fn reports_read_back()
@@ -16,6 +16,12 @@ pub fn source_journals_read_back()
 /// spent exactly where it doesn't fail and some thread's last entry is the end of its budget.
 pub fn endings_tell_the_end()
     ensures { EndingsTellTheEnd }
+{}
+
+/// A program has one optimised target, and one that is tidied.
+#[tactic(auto, using(crate::proofs::OneTarget::targets_are_one))]
+pub fn targets_are_one()
+    ensures { TargetsAreOne }
 {}
 
 /// A run that is complete for a budget has steps enough below what lifting takes.

@@ -1,9 +1,9 @@
 -- The facts of each command, and its condition where words mean it.
 use Rattle.std.proofs.Common.{ℕ, ◌≤◌, true, false, List, Option, Some, None, arith}
 use Rattle.words.specs.declared.command.Command.{Command}
-use Rattle.words.specs.declared.command.Command.TheVariants.{Check, Opt, Validate, Seq, Walk, Run, Replay, Gen}
+use Rattle.words.specs.declared.command.Command.TheVariants.{Check, Opt, Tidy, Validate, Seq, Walk, Run, Replay, Gen}
 use Rattle.words.specs.Meaning.{GivesNumber, Means}
-use Rattle.reports.specs.Targets.{IsOptimised}
+use Rattle.reports.specs.Targets.{IsOptimised, IsTidiedTarget}
 use Rattle.tool.specs.Commands.{meaning_of, HasCondition}
 use Rattle.tool.specs.Walk.{IsWalkOf}
 use Rattle.tool.specs.Run.{IsThreadedRun}
@@ -20,6 +20,7 @@ use Rattle.tool.proofs.GenFacts.{gen_facts}
 pub command_facts : (command : Command) → CommandFacts (meaning_of command)
 command_facts Check = check_facts
 command_facts Opt = opt_facts
+command_facts (Tidy order draws steps) = report_facts false IsTidiedTarget (IsWalkOf order draws steps) steps
 command_facts Validate = validate_facts
 command_facts (Seq function) = seq_facts function
 command_facts (Walk order draws steps) = report_facts false IsOptimised (IsWalkOf order draws steps) steps
@@ -36,6 +37,7 @@ gives_functions None n is = (omega (arith, is), omega (arith, is))
 gives_functions (Some text) n is = (is.1, is.2)
 
 of_values : (command : Command) (words : List (List ℕ)) → Means words command → HasCondition command
+of_values (Tidy order draws steps) words m = gives_budget _ steps m.values.2
 of_values (Walk order draws steps) words m = gives_budget _ steps m.values.2
 of_values (Run seed steps) words m = gives_budget _ steps m.values.1
 of_values (Gen number functions form) words m = gives_functions _ functions m.values.1

@@ -34,7 +34,7 @@ checks_have_an_output bytes = go (each_answer bytes)
 abbrev SameOutput : (one other : List ℕ) → (s t : Status) → Type 0
 SameOutput one other s t = (one ≡ other) × (s ≡ t)
 
-text_refused_once : (bytes one other : List ℕ) (s t : Status) → IsTextRefusal bytes one s → IsTextRefusal bytes other t → SameOutput one other s t
+pub text_refused_once : (bytes one other : List ℕ) (s t : Status) → IsTextRefusal bytes one s → IsTextRefusal bytes other t → SameOutput one other s t
 text_refused_once bytes one other s t x y =
     let same = one_first bytes x.refusal y.refusal x.first y.first in
     (x.written ∙ ap (λ (r : Refusal Rule). refusal_line (rule_word r.rule) r.line r.column) same ∙ sym y.written, x.status ∙ sym y.status)

@@ -17,19 +17,16 @@ use Rattle.words.specs.declared.command.Form.TheVariants.{Text, Summary}
 use Rattle.tool.specs.declared.status.Status.{Status}
 use Rattle.tool.specs.Refusals.{refusal_line}
 use Rattle.reports.specs.Targets.{IsOptimised, target_program}
+use Rattle.reports.proofs.Callers.{targets_are_one}
 use Rattle.tool.specs.Opt.{IsOptimisedText, IsOptOutput}
 use Rattle.tool.specs.Gen.{IsChainSummary, IsSummary, IsForm, IsGenOutput, summary_lines}
 use Rattle.tool.specs.Laws.{OptsHaveOneOutput, GensHaveOneOutput}
 use Rattle.tool.proofs.DrawnWalks.{walked_once}
 
--- a program has one target
-targets_one : (p one other : Program) → IsOptimised p one → IsOptimised p other → one ≡ other
-targets_one p one other x y = x.last ∙ ap target_program (opt_all_is_one p x.chain y.chain x.made y.made) ∙ sym y.last
-
 optimised_once : (bytes one other : List ℕ) (s t : Status) → IsOptimisedText bytes one s → IsOptimisedText bytes other t → (one ≡ other) × (s ≡ t)
 optimised_once bytes one other s t x y =
     let same = one_program bytes x.program y.program x.spelled y.spelled in
-    let one_target = targets_one x.program x.target y.target x.optimised (subst (λ (p : Program). IsOptimised p y.target) (sym same) y.optimised) in
+    let one_target = (targets_are_one x.program x.target y.target).0 x.optimised (subst (λ (p : Program). IsOptimised p y.target) (sym same) y.optimised) in
     (x.written ∙ ap program_text one_target ∙ sym y.written, x.status ∙ sym y.status)
 
 pub opts_have_one_output : OptsHaveOneOutput

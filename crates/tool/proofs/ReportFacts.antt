@@ -12,7 +12,7 @@ use Rattle.view_machine.specs.Runs.{IsJournalRun}
 use Rattle.run_choices.specs.Complete.{IsComplete}
 use Rattle.walk_limits.specs.Walks.{EntriesTakeCandidates}
 use Rattle.pass_chain.specs.declared.chains.ProgramChain.{ProgramChain}
-use Rattle.reports.specs.Targets.{IsChainOf, IsOptimised, target_program}
+use Rattle.reports.specs.Targets.{IsChainOf, IsOptimised, IsTidiedOf, IsTidiedTarget, target_program}
 use Rattle.reports.specs.Runs.{IsReported}
 use Rattle.reports.specs.declared.report.Report.{Report}
 use Rattle.reports.proofs.Callers.{reported_of_given}
@@ -105,10 +105,25 @@ pub chain_report : (IsOwn : Program → List Entry → Type 0) (steps : ℕ) (by
     → SpellsProgram bytes p → IsChainOf p c → IsRun IsOwn steps (target_program c) journal → IsToldRun c.source (target_program c) journal out s → IsReport IsOptimised IsOwn steps bytes out s
 chain_report IsOwn steps bytes p c journal out s spelled is run told =
     report_of IsOptimised IsOwn steps bytes p (target_program c) journal out s spelled (record { chain = c; made = is.made; last = refl }) is.well_formed is.threads run
-    (record { ending = told.ending; reported = reported_of_given p c journal out told.ending is told.reported; status = told.status })
+    (record { ending = told.ending; reported = reported_of_given p c (target_program c) journal out told.ending is told.reported; status = told.status })
+
+-- or what that is tidied to
+tidied_report : (IsOwn : Program → List Entry → Type 0) (steps : ℕ) (bytes : List ℕ) (p : Program) (c : ProgramChain) (q : Program) (journal : List Entry) (out : List ℕ) (s : Status)
+    → SpellsProgram bytes p → IsChainOf p c → IsTidiedOf c q → IsRun IsOwn steps q journal → IsToldRun c.source q journal out s → IsReport IsTidiedTarget IsOwn steps bytes out s
+tidied_report IsOwn steps bytes p c q journal out s spelled is tidied run told =
+    report_of IsTidiedTarget IsOwn steps bytes p q journal out s spelled
+    (record { optimised = target_program c; made = record { chain = c; made = is.made; last = refl }; tidied = tidied.made })
+    tidied.accepted.target_well_formed (tidied.accepted.threads ∙ is.threads) run
+    (record { ending = told.ending; reported = reported_of_given p c q journal out told.ending is told.reported; status = told.status })
 
 pub chain_reported : {E : Type 0} (IsOwn : Program → List Entry → Type 0) (steps : ℕ) (bytes : List ℕ) (p : Program) (c : ProgramChain) (journal : List Entry) (r : Result Output E)
     → SpellsProgram bytes p → IsChainOf p c → IsRun IsOwn steps (target_program c) journal → IfOk r (λ o. IsToldRun c.source (target_program c) journal o.bytes.items o.status)
     → IfOk r (λ o. IsReportOutput IsOptimised IsOwn steps bytes o.bytes.items o.status)
 chain_reported IsOwn steps bytes p c journal (Ok o) spelled is run told = inl (chain_report IsOwn steps bytes p c journal o.bytes.items o.status spelled is run told)
 chain_reported IsOwn steps bytes p c journal (Err e) spelled is run told = tt
+
+pub tidied_reported : {E : Type 0} (IsOwn : Program → List Entry → Type 0) (steps : ℕ) (bytes : List ℕ) (p : Program) (c : ProgramChain) (q : Program) (journal : List Entry) (r : Result Output E)
+    → SpellsProgram bytes p → IsChainOf p c → IsTidiedOf c q → IsRun IsOwn steps q journal → IfOk r (λ o. IsToldRun c.source q journal o.bytes.items o.status)
+    → IfOk r (λ o. IsReportOutput IsTidiedTarget IsOwn steps bytes o.bytes.items o.status)
+tidied_reported IsOwn steps bytes p c q journal (Ok o) spelled is tidied run told = inl (tidied_report IsOwn steps bytes p c q journal o.bytes.items o.status spelled is tidied run told)
+tidied_reported IsOwn steps bytes p c q journal (Err e) spelled is tidied run told = tt

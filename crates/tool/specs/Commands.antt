@@ -1,11 +1,12 @@
 -- The table of the commands: what each of them means.
 use Rattle.std.specs.Prelude.{◌≡◌, ℕ, true, false, List, Option}
 use Rattle.words.specs.declared.command.Command.{Command}
-use Rattle.words.specs.declared.command.Command.TheVariants.{Check, Opt, Validate, Seq, Walk, Run, Replay, Gen}
+use Rattle.words.specs.declared.command.Command.TheVariants.{Check, Opt, Tidy, Validate, Seq, Walk, Run, Replay, Gen}
 use Rattle.tool.specs.declared.status.Status.{Status}
 use Rattle.tool.specs.Meaning.{CommandMeaning}
 use Rattle.tool.specs.Check.{check_meaning}
 use Rattle.tool.specs.Opt.{opt_meaning}
+use Rattle.tool.specs.Tidy.{tidy_meaning}
 use Rattle.tool.specs.Validate.{validate_meaning}
 use Rattle.tool.specs.Seq.{seq_meaning}
 use Rattle.tool.specs.Walk.{walk_meaning}
@@ -16,6 +17,7 @@ use Rattle.tool.specs.Gen.{gen_meaning}
 abbrev pub meaning_of : Command → CommandMeaning
 meaning_of Check = check_meaning
 meaning_of Opt = opt_meaning
+meaning_of (Tidy order draws steps) = tidy_meaning order draws steps
 meaning_of Validate = validate_meaning
 meaning_of (Seq function) = seq_meaning function
 meaning_of (Walk order draws steps) = walk_meaning order draws steps

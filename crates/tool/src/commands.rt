@@ -11,6 +11,7 @@ mod optimising;
 mod replaying;
 pub(crate) mod running;
 mod sequencing;
+mod tidying;
 mod validating;
 mod walking;
 
@@ -28,9 +29,11 @@ pub(crate) fn limit(command: &Command) -> Option<u64>
     ensures { result ≡ limit_of command.now }
 {
     match command {
-        Command::Check | Command::Opt | Command::Walk { .. } | Command::Run { .. } => {
-            Some(TEXT_LIMIT)
-        }
+        Command::Check
+        | Command::Opt
+        | Command::Tidy { .. }
+        | Command::Walk { .. }
+        | Command::Run { .. } => Some(TEXT_LIMIT),
         Command::Validate | Command::Seq { .. } => Some(4_194_304),
         Command::Replay => Some(134_217_728),
         Command::Gen { .. } => None,
@@ -53,6 +56,11 @@ pub(crate) fn output_of<R: Threads + Sync>(
     match command {
         Command::Check => checking::output(alloc, input),
         Command::Opt => optimising::output(alloc, rt, input),
+        Command::Tidy {
+            order,
+            draws,
+            steps,
+        } => tidying::output(alloc, rt, order.turns.as_slice(), draws, *steps, input),
         Command::Validate => validating::output(alloc, input),
         Command::Seq { function } => sequencing::output(alloc, function.as_slice(), input),
         Command::Walk {

@@ -21,12 +21,12 @@ use Rattle.clap.specs.declared.parser.matches.ArgMatches.TheViews.{out-ArgMatche
 use Rattle.il_syntax.specs.Name.{is_letter, is_word}
 use Rattle.words.specs.Commands.{CommandWords, commands, walk_options}
 use Rattle.words.specs.Reading.{ReadsCommand}
-use Rattle.words.specs.Meaning.{ListsNumbers, Means, GivesValues, GivesDraws, GivesOrder, GivesSteps, GivesNumber, GivesNumbers, IsFormOf, SetsNumber, SetsWord, form_word, in_words, name_of, options_of}
+use Rattle.words.specs.Meaning.{ListsNumbers, Means, GivesValues, GivesDraws, GivesWalk, GivesNumber, GivesNumbers, IsFormOf, SetsNumber, SetsWord, form_word, in_words, name_of, options_of}
 use Rattle.words.specs.Options.{Options, AllowsSettings, is_option, value_of}
 use Rattle.words.specs.Program.{clap_program, row_of}
 use Rattle.words.specs.Spelling.{Setting, WordText}
 use Rattle.words.specs.declared.command.Command.{Command}
-use Rattle.words.specs.declared.command.Command.TheVariants.{Check, Gen, Opt, Replay, Run, Seq, Validate, Walk}
+use Rattle.words.specs.declared.command.Command.TheVariants.{Check, Gen, Opt, Replay, Run, Seq, Tidy, Validate, Walk}
 use Rattle.words.specs.declared.command.Drawing.{Drawing}
 use Rattle.words.specs.declared.command.Drawing.TheVariants.{Seed, Picks}
 use Rattle.words.specs.declared.command.Form.{Form}
@@ -163,6 +163,7 @@ pub record IsListed (w : CommandWords) : Type 0 where
 listed : (c : Command) → IsListed (in_words c).words
 listed Check = record { found = refl; named = refl; no_dash = refl }
 listed Opt = record { found = refl; named = refl; no_dash = refl }
+listed (Tidy order draws steps) = record { found = refl; named = refl; no_dash = refl }
 listed Validate = record { found = refl; named = refl; no_dash = refl }
 listed (Seq function) = record { found = refl; named = refl; no_dash = refl }
 listed (Walk order draws steps) = record { found = refl; named = refl; no_dash = refl }
@@ -215,7 +216,7 @@ one_draws os (Picks a) (Picks b) s t =
     let same : a ≡ b = same_numbers 4294967295 l.0 a b (omega arith) l.2 (subst (λ t. AreNumbers 4294967295 t b) (sym text) m.2) in cc
 
 -- the settings of each command that walks
-plain_walk : (order : List ℕ) (draws : Drawing) (steps : ℕ) (os : List Setting) → GivesOrder os order × GivesDraws os draws × GivesSteps os steps → PlainValues walk_options os
+plain_walk : (order : List ℕ) (draws : Drawing) (steps : ℕ) (os : List Setting) → GivesWalk os order draws steps → PlainValues walk_options os
 plain_walk order draws steps os s name value option is = first (option_cases (codes "order", false) ((codes "picks", false) ∷ ((codes "seed", false) ∷ ((codes "steps", false) ∷ []))) name option)
   where
     fourth : (codes "steps" ≡ name) ⊎ (is_option [] name ≡ true) → IsPlain value
@@ -240,6 +241,7 @@ plain_settings (Seq function) os s name value option is = first (option_cases (c
     first : (codes "function" ≡ name) ⊎ (is_option [] name ≡ true) → IsPlain value
     first (inl same) = plain_word function (value_of (codes "function") os) value s (ap (λ n. value_of n os) same ∙ is)
     first (inr none) = absurd cc
+plain_settings (Tidy order draws steps) os s name value option is = plain_walk order draws steps os s name value option is
 plain_settings (Walk order draws steps) os s name value option is = plain_walk order draws steps os s name value option is
 plain_settings (Run seed steps) os s name value option is = first (option_cases (codes "seed", false) ((codes "steps", false) ∷ []) name option)
   where
@@ -265,6 +267,13 @@ plain_settings (Gen number functions form) os s name value option is = first (op
     first (inr rest) = second (option_cases (codes "functions", false) ((codes "form", false) ∷ []) name rest)
 plain_settings c os s name value option is = absurd cc
 
+one_walk : (os : List Setting) (order order' : List ℕ) (draws draws' : Drawing) (steps steps' : ℕ) → GivesWalk os order draws steps → GivesWalk os order' draws' steps' → (order ≡ order') × (draws ≡ draws') × (steps ≡ steps')
+one_walk os order order' draws draws' steps steps' s t = (
+  one_list 15 (value_of (codes "order") os) order order' (omega arith) s.0 t.0,
+  one_draws os draws draws' s.1 t.1,
+  one_number 1 16384 1000 steps steps' (value_of (codes "steps") os) (omega arith) s.2 t.2,
+)
+
 -- two commands of one name are of one kind
 same_name : (c d : Command) → bytes_eq (name_of c) (name_of d) ≡ false → name_of c ≡ name_of d → ⊥
 same_name c d differs same = apart (name_of c) (name_of d) differs same
@@ -277,11 +286,12 @@ one_command os Replay Replay same s t = refl
 one_command os (Seq function) (Seq function') same s t =
     let functions : function ≡ function' = one_word function function' (value_of (codes "function") os) s t in
     cc
+one_command os (Tidy order draws steps) (Tidy order' draws' steps') same s t =
+    let walks = one_walk os order order' draws draws' steps steps' s t in
+    λ i. Tidy (walks.0 i) (walks.1 i) (walks.2 i)
 one_command os (Walk order draws steps) (Walk order' draws' steps') same s t =
-    let orders : order ≡ order' = one_list 15 (value_of (codes "order") os) order order' (omega arith) s.0 t.0 in
-    let drawings : draws ≡ draws' = one_draws os draws draws' s.1 t.1 in
-    let all_steps : steps ≡ steps' = one_number 1 16384 1000 steps steps' (value_of (codes "steps") os) (omega arith) s.2 t.2 in
-    cc
+    let walks = one_walk os order order' draws draws' steps steps' s t in
+    λ i. Walk (walks.0 i) (walks.1 i) (walks.2 i)
 one_command os (Run seed steps) (Run seed' steps') same s t =
     let seeds : seed ≡ seed' = one_number 0 18446744073709551615 0 seed seed' (value_of (codes "seed") os) (omega arith) s.0 t.0 in
     let all_steps : steps ≡ steps' = one_number 1 16384 1000 steps steps' (value_of (codes "steps") os) (omega arith) s.1 t.1 in

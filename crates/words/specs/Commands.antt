@@ -7,21 +7,24 @@ use Rattle.words.specs.Spelling.{WordText}
 abbrev pub CommandWords : Type 0
 CommandWords = WordText × Options
 
+-- the options of each command that walks
+abbrev pub walk_options : Options
+walk_options = (codes "order", false) ∷ ((codes "picks", false) ∷ ((codes "seed", false) ∷ ((codes "steps", false) ∷ [])))
+
 abbrev pub check_words : CommandWords
 check_words = (codes "check", [])
 
 abbrev pub opt_words : CommandWords
 opt_words = (codes "opt", [])
 
+abbrev pub tidy_words : CommandWords
+tidy_words = (codes "tidy", walk_options)
+
 abbrev pub validate_words : CommandWords
 validate_words = (codes "validate", [])
 
 abbrev pub seq_words : CommandWords
 seq_words = (codes "seq", (codes "function", true) ∷ [])
-
--- the options of each command that walks
-abbrev pub walk_options : Options
-walk_options = (codes "order", false) ∷ ((codes "picks", false) ∷ ((codes "seed", false) ∷ ((codes "steps", false) ∷ [])))
 
 abbrev pub walk_words : CommandWords
 walk_words = (codes "walk", walk_options)
@@ -39,10 +42,11 @@ abbrev pub commands : List CommandWords
 commands =
     check_words
     ∷ (opt_words
+    ∷ (tidy_words
     ∷ (validate_words
     ∷ (seq_words
     ∷ (walk_words
     ∷ (run_words
     ∷ (replay_words
     ∷ (gen_words
-    ∷ [])))))))
+    ∷ []))))))))

@@ -1,12 +1,12 @@
 -- The command that words mean.
 use Rattle.std.specs.Prelude.{◌≡◌, ℕ, true, List, [], ◌∷◌, Option, Some, None, codes}
 use Rattle.il_syntax.specs.Name.{is_word}
-use Rattle.words.specs.Commands.{CommandWords, check_words, gen_words, opt_words, replay_words, run_words, seq_words, validate_words, walk_words}
+use Rattle.words.specs.Commands.{CommandWords, check_words, gen_words, opt_words, replay_words, run_words, seq_words, tidy_words, validate_words, walk_words}
 use Rattle.words.specs.Numbers.{IsNumber, AreNumbers}
 use Rattle.words.specs.Options.{AllowsSettings, Options, value_of}
 use Rattle.words.specs.Spelling.{Setting, SpellsSettings, WordText}
 use Rattle.words.specs.declared.command.Command.{Command}
-use Rattle.words.specs.declared.command.Command.TheVariants.{Check, Gen, Opt, Replay, Run, Seq, Validate, Walk}
+use Rattle.words.specs.declared.command.Command.TheVariants.{Check, Gen, Opt, Replay, Run, Seq, Tidy, Validate, Walk}
 use Rattle.words.specs.declared.command.Drawing.{Drawing}
 use Rattle.words.specs.declared.command.Drawing.TheVariants.{Seed, Picks}
 use Rattle.words.specs.declared.command.Form.{Form}
@@ -62,6 +62,10 @@ abbrev pub GivesDraws : List Setting → Drawing → Type 0
 GivesDraws settings (Seed seed) = (value_of (codes "picks") settings ≡ None) × GivesSeed settings seed
 GivesDraws settings (Picks list) = (value_of (codes "seed") settings ≡ None) × ListsNumbers 4294967295 (value_of (codes "picks") settings) list
 
+-- the values of each command that walks
+abbrev pub GivesWalk : List Setting → List ℕ → Drawing → ℕ → Type 0
+GivesWalk settings order draws steps = GivesOrder settings order × GivesDraws settings draws × GivesSteps settings steps
+
 -- up to 2^64 - 1, and never left out
 abbrev pub GivesProgramNumber : List Setting → ℕ → Type 0
 GivesProgramNumber settings number = SetsNumber 0 18446744073709551615 (value_of (codes "number") settings) number
@@ -94,9 +98,10 @@ without_values words = record { words = words; gives = λ settings. Unit {0} }
 abbrev pub in_words : Command → InWords
 in_words Check = without_values check_words
 in_words Opt = without_values opt_words
+in_words (Tidy order draws steps) = record { words = tidy_words; gives = λ settings. GivesWalk settings order draws steps }
 in_words Validate = without_values validate_words
 in_words (Seq function) = record { words = seq_words; gives = λ settings. GivesFunctionName settings function }
-in_words (Walk order draws steps) = record { words = walk_words; gives = λ settings. GivesOrder settings order × GivesDraws settings draws × GivesSteps settings steps }
+in_words (Walk order draws steps) = record { words = walk_words; gives = λ settings. GivesWalk settings order draws steps }
 in_words (Run seed steps) = record { words = run_words; gives = λ settings. GivesSeed settings seed × GivesSteps settings steps }
 in_words Replay = without_values replay_words
 in_words (Gen number functions form) = record { words = gen_words; gives = λ settings. GivesProgramNumber settings number × GivesFunctions settings functions × GivesForm settings form }

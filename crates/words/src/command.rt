@@ -31,6 +31,12 @@ pub enum Command {
     Check,
     /// Optimise a program.
     Opt,
+    /// Optimise a program, tidy the registers of the result, and run that as `Walk` does.
+    Tidy {
+        order: Turns,
+        draws: Drawing,
+        steps: u64,
+    },
     /// Judge whether one program may stand in the place of another.
     Validate,
     /// Play the functions of this name of two programs together, through the events of an environment.

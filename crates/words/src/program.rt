@@ -89,6 +89,7 @@ pub(crate) fn program<'a>(alloc: Global) -> Result<Command<'a>, AllocError>
     bare(alloc)
         .subcommand(plain(alloc, "check"))?
         .subcommand(plain(alloc, "opt"))?
+        .subcommand(walking(alloc, "tidy")?)?
         .subcommand(plain(alloc, "validate"))?
         .subcommand(seq(alloc)?)?
         .subcommand(walking(alloc, "walk")?)?

@@ -192,6 +192,19 @@ fn seq(alloc: Global, settings: &ArgMatches) -> Result<Command, WordsFault>
     Ok(Command::Seq { function })
 }
 
+fn tidy(alloc: Global, settings: &ArgMatches) -> Result<Command, WordsFault>
+    ensures { (os : List Setting) → rows_of (found_of settings.now) ≡ map row_of os → ReadsCommand (codes "tidy") os result }
+{
+    let order = numbers_or_none(alloc, settings, "order", 15)?;
+    let draws = draws(alloc, settings)?;
+    let steps = steps(settings)?;
+    Ok(Command::Tidy {
+        order,
+        draws,
+        steps,
+    })
+}
+
 fn walk(alloc: Global, settings: &ArgMatches) -> Result<Command, WordsFault>
     ensures { (os : List Setting) → rows_of (found_of settings.now) ≡ map row_of os → ReadsCommand (codes "walk") os result }
 {
@@ -256,6 +269,7 @@ fn command(alloc: Global, name: &str, settings: &ArgMatches) -> Result<Command, 
     match name {
         "check" => Ok(Command::Check),
         "opt" => Ok(Command::Opt),
+        "tidy" => tidy(alloc, settings),
         "validate" => Ok(Command::Validate),
         "seq" => seq(alloc, settings),
         "walk" => walk(alloc, settings),
@@ -285,6 +299,7 @@ fn has_dashes(words: &Words) -> bool
 /// - `walk`: `--order` (1 to 4096 numbers from 0 to 15, else the empty list), `--picks` (1 to 4096
 ///   numbers from 0 to 4294967295), `--seed` (a number of 64 bits, else 0), `--steps` (1 to 16384,
 ///   else 1000)
+/// - `tidy`: as for `walk`
 /// - `run`: `--seed` and `--steps`, as for `walk`
 /// - `replay`
 /// - `gen`: `--number` (required, a number of 64 bits), `--functions` (1 to 256, else 4), `--form`

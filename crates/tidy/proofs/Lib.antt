@@ -1,0 +1,19 @@
+mod AtomLaws
+mod SideBySide
+mod OnRuns
+mod LiveLaws
+mod RowLaws
+mod KnownLaws
+mod ZeroLaws
+mod Mapped
+mod Cleared
+mod Acceptance
+mod LeastLaws
+mod Unique
+mod DecidedLaws
+mod HeadsListed
+mod JudgeLaws
+mod Counts
+mod Fits
+mod ProgramLaws
+pub mod Callers

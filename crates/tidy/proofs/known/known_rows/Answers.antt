@@ -1,0 +1,34 @@
+use Rattle.std.proofs.Common.{◌≡◌, ℕ, pos, leb, ltb, Bool, true, false, ◌&&◌, List, ◌++◌, length, refl, ap, ◌∙◌}
+use Rattle.il_syntax.specs.declared.statement.Atom.{Atom}
+use Rattle.il_syntax.specs.declared.statement.Atom.TheVariants.{Const, Reg}
+use Rattle.il_syntax.specs.declared.program.Function.{Function}
+use Rattle.il_paths.specs.Tree.{tree_of}
+use Rattle.tidy.specs.declared.known.KnownPair.{KnownPair}
+use Rattle.il_paths.specs.Atoms.{atoms_equal}
+use Rattle.tidy.specs.Known.{known_at_entry}
+use Rattle.tidy.specs.Rows.{known_in, known_column, exit_known, table_known}
+use Rattle.tidy.proofs.KnownLaws.{rows_known, end_known}
+use Rattle.tidy.proofs.known.known_rows.Goals as goal
+
+nothing : (b c : Bool) → (b && (c && false)) ≡ false
+nothing true true = refl
+nothing true false = refl
+nothing false c = refl
+
+entry_at : (f : Function) (r : ℕ) (a : Atom) → (leb f.params r && (ltb r (length f.registers) && atoms_equal a (Const (pos 0)))) ≡ known_at_entry f r a
+entry_at f r (Const n) = refl
+entry_at f r (Reg s) = nothing (leb f.params r) (ltb r (length f.registers))
+
+pub returns-clause-rows : goal.returns-clause-rows
+returns-clause-rows c =
+    let f = c.args.f.now in
+    rows_known f c.from_vec.result (λ r a.
+    let entry = ap (λ (row : List KnownPair). known_in row r a) c.as_slice-2.ensures ∙ c.in_ok-entry.ensures r a ∙ ap (λ (names : List (List ℕ)). leb f.params r && (ltb r (length names) && atoms_equal a (Const (pos 0)))) c.as_slice.ensures ∙ entry_at f r a in
+    ap (known_column r a) c.from_vec.ensures ∙ c.in_ok-end.ensures.rows r a ∙ (λ i. known_column r a (c.new-rows.ensures.items i) ++ table_known r a (tree_of f.body) (entry i)))
+
+pub returns-clause-end : goal.returns-clause-end
+returns-clause-end c =
+    let f = c.args.f.now in
+    end_known f c.in_ok-end.end (λ r a.
+    let entry = ap (λ (row : List KnownPair). known_in row r a) c.as_slice-2.ensures ∙ c.in_ok-entry.ensures r a ∙ ap (λ (names : List (List ℕ)). leb f.params r && (ltb r (length names) && atoms_equal a (Const (pos 0)))) c.as_slice.ensures ∙ entry_at f r a in
+    c.in_ok-end.ensures.after r a ∙ ap (exit_known r a (tree_of f.body)) entry)

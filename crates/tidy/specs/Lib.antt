@@ -1,0 +1,13 @@
+pub mod Atoms
+pub mod Known
+pub mod Live
+pub mod Propagated
+pub mod Tidied
+pub mod Accepts
+pub mod Judged
+pub mod Laws
+pub mod Programs
+pub mod SameSites
+pub mod Rows
+pub mod Least
+pub mod Decided

@@ -1,0 +1,233 @@
+//! What each register is known to hold, before each site and at the end.
+ghost use Rattle.std.specs.Prelude.{◌≡◌, ◌<◌, ◌≤◌, ◌+◌, ℕ, pos, Bool, [], ◌∷◌, ◌++◌, not, ◌&&◌, ◌||◌, nat_le, nat_lt, Some, length, IfOk, OnOk};
+ghost use Rattle.il_syntax.specs.declared.statement.Atom.{Atom};
+ghost use Rattle.il_syntax.specs.declared.statement.Atom.TheVariants.{Const};
+ghost use Rattle.il_syntax.specs.declared.program.Function.{Function};
+ghost use Rattle.il_syntax.specs.Statements.{head_of};
+ghost use Rattle.il_paths.specs.Atoms.{atoms_equal};
+ghost use Rattle.il_paths.specs.Tree.{Empty, tree_of, before_rest};
+ghost use Rattle.tidy.specs.Known.{known_change, known_at_entry, touches};
+ghost use Rattle.tidy.specs.Rows.{is_pair, known_in, known_column, exit_known, table_known, AreKnownRows, IsLastRow};
+
+use crate::atoms::{are_equal, register_given};
+use il_syntax::{Atom, Block, Function, Stmt};
+use sqlite_items::Items;
+use std::alloc::Global;
+use values_undef::NoMemory;
+
+/// A register and an atom that it is known to hold.
+#[derive(Clone, Copy)]
+pub(crate) struct KnownPair {
+    pub r: u32,
+    pub a: Atom,
+}
+
+/// The pairs that are known at one place.
+pub(crate) type Row = Items<KnownPair>;
+
+/// Whether the pair is known in a row.
+pub(crate) fn is_known(row: &[KnownPair], r: u32, a: Atom) -> bool
+    ensures { result ≡ known_in row.now r a }
+{
+    match row {
+        [] => false,
+        [pair, more @ ..] => (pair.r == r && are_equal(a, pair.a)) || is_known(more, r, a),
+    }
+}
+
+fn push_pair(row: &mut Row, pair: KnownPair) -> Result<(), NoMemory>
+    ensures { OnOk result ((r : ℕ) (a : Atom) → known_in row.new r a ≡ (known_in row.old r a || is_pair r a pair)) }
+{
+    row.push(pair)?;
+    Ok(())
+}
+
+/// The row without the pairs that a register stands in.
+fn without_register(alloc: Global, row: &[KnownPair], k: u32) -> Result<Row, NoMemory>
+    ensures { IfOk result (λ new. (r : ℕ) (a : Atom) → known_in new r a ≡ (not (touches r a (Some k)) && known_in row.now r a)) }
+{
+    match row {
+        [] => Ok(Items::new(alloc)),
+        [pair, more @ ..] => {
+            let mut new = without_register(alloc, more, k)?;
+            if k == pair.r || are_equal(pair.a, Atom::Reg(k)) {
+                return Ok(new);
+            }
+            push_pair(&mut new, *pair)?;
+            Ok(new)
+        }
+    }
+}
+
+/// What is known in both rows.
+fn meet_rows(alloc: Global, one: &[KnownPair], other: &[KnownPair]) -> Result<Row, NoMemory>
+    ensures { IfOk result (λ new. (r : ℕ) (a : Atom) → known_in new r a ≡ (known_in one.now r a && known_in other.now r a)) }
+{
+    match one {
+        [] => Ok(Items::new(alloc)),
+        [pair, more @ ..] => {
+            let mut new = meet_rows(alloc, more, other)?;
+            if is_known(other, pair.r, pair.a) {
+                push_pair(&mut new, *pair)?;
+                return Ok(new);
+            }
+            Ok(new)
+        }
+    }
+}
+
+/// What is known after a statement that has no blocks.
+fn row_after(alloc: Global, statement: &Stmt, row: &[KnownPair]) -> Result<Row, NoMemory>
+    ensures { IfOk result (λ new. (r : ℕ) (a : Atom) → known_in new r a ≡ known_change r a (head_of statement.now) (known_in row.now r a)) }
+{
+    match statement {
+        Stmt::Copy { r, a } => {
+            let mut new = without_register(alloc, row, *r)?;
+            if are_equal(*a, Atom::Reg(*r)) {
+                return Ok(new);
+            }
+            push_pair(&mut new, KnownPair { r: *r, a: *a })?;
+            Ok(new)
+        }
+        Stmt::Compute { r, .. } => Ok(without_register(alloc, row, *r)?),
+        Stmt::Load { r, .. } => Ok(without_register(alloc, row, *r)?),
+        Stmt::AtomicLoad { r, .. } => Ok(without_register(alloc, row, *r)?),
+        Stmt::Update { r, .. } => Ok(without_register(alloc, row, *r)?),
+        Stmt::Call { r, .. } => Ok(without_register(alloc, row, *r)?),
+        Stmt::Skip => Ok(Items::from_slice(alloc, row)?),
+        Stmt::Store { .. } => Ok(Items::from_slice(alloc, row)?),
+        Stmt::AtomicStore { .. } => Ok(Items::from_slice(alloc, row)?),
+        Stmt::Fence { .. } => Ok(Items::from_slice(alloc, row)?),
+        Stmt::Print { .. } => Ok(Items::from_slice(alloc, row)?),
+        Stmt::If { .. } => Ok(Items::from_slice(alloc, row)?),
+        Stmt::While { .. } => Ok(Items::from_slice(alloc, row)?),
+    }
+}
+
+/// What is known after a block.
+#[cycle(exits)]
+fn exit_block(alloc: Global, block: &Block, row: &[KnownPair]) -> Result<Row, NoMemory>
+    ensures { IfOk result (λ new. (r : ℕ) (a : Atom) → known_in new r a ≡ exit_known r a (tree_of block.now) (known_in row.now r a)) }
+{
+    let mut known = Items::from_slice(alloc, row)?;
+    for statement in block.statements.as_slice() {
+        known = exit(alloc, statement, known.as_slice())?;
+    }
+    Ok(known)
+}
+
+/// The same for a statement. One turn of a loop is enough: a pair that a turn loses is lost.
+#[cycle(exits)]
+fn exit(alloc: Global, statement: &Stmt, row: &[KnownPair]) -> Result<Row, NoMemory>
+    ensures { IfOk result (λ new. (r : ℕ) (a : Atom) → known_in new r a ≡ exit_known r a (before_rest statement.now Empty) (known_in row.now r a)) }
+{
+    match statement {
+        Stmt::If { yes, no, .. } => {
+            let one = exit_block(alloc, yes, row)?;
+            let other = exit_block(alloc, no, row)?;
+            Ok(meet_rows(alloc, one.as_slice(), other.as_slice())?)
+        }
+        Stmt::While { body, .. } => {
+            let turn = exit_block(alloc, body, row)?;
+            Ok(meet_rows(alloc, row, turn.as_slice())?)
+        }
+        _ => Ok(row_after(alloc, statement, row)?),
+    }
+}
+
+/// Puts a copy of the row to the end.
+fn push_row(alloc: Global, row: &[KnownPair], rows: &mut Vec<Row>) -> Result<(), NoMemory>
+    ensures { OnOk result ((r : ℕ) (a : Atom) → known_column r a rows.new.items ≡ known_column r a rows.old.items ++ known_in row.now r a ∷ []) }
+{
+    rows.push(Items::from_slice(alloc, row)?)?;
+    Ok(())
+}
+
+/// Puts the rows before the sites of a block to the end, and answers what is known after it.
+#[cycle(fills)]
+fn fill_block(
+    alloc: Global,
+    block: &Block,
+    row: &[KnownPair],
+    rows: &mut Vec<Row>,
+) -> Result<Row, NoMemory>
+    ensures after { IfOk result (λ new. (r : ℕ) (a : Atom) → known_in new r a ≡ exit_known r a (tree_of block.now) (known_in row.now r a)) }
+    ensures rows { OnOk result ((r : ℕ) (a : Atom) → known_column r a rows.new.items ≡ known_column r a rows.old.items ++ table_known r a (tree_of block.now) (known_in row.now r a)) }
+{
+    let mut known = Items::from_slice(alloc, row)?;
+    for statement in block.statements.as_slice() {
+        known = fill(alloc, statement, known.as_slice(), rows)?;
+    }
+    Ok(known)
+}
+
+/// The same for a statement.
+#[cycle(fills)]
+fn fill(
+    alloc: Global,
+    statement: &Stmt,
+    row: &[KnownPair],
+    rows: &mut Vec<Row>,
+) -> Result<Row, NoMemory>
+    ensures after { IfOk result (λ new. (r : ℕ) (a : Atom) → known_in new r a ≡ exit_known r a (before_rest statement.now Empty) (known_in row.now r a)) }
+    ensures rows { OnOk result ((r : ℕ) (a : Atom) → known_column r a rows.new.items ≡ known_column r a rows.old.items ++ table_known r a (before_rest statement.now Empty) (known_in row.now r a)) }
+{
+    match statement {
+        Stmt::If { yes, no, .. } => {
+            push_row(alloc, row, rows)?;
+            let one = fill_block(alloc, yes, row, rows)?;
+            let other = fill_block(alloc, no, row, rows)?;
+            Ok(meet_rows(alloc, one.as_slice(), other.as_slice())?)
+        }
+        Stmt::While { body, .. } => {
+            let low = exit(alloc, statement, row)?;
+            push_row(alloc, low.as_slice(), rows)?;
+            fill_block(alloc, body, low.as_slice(), rows)?;
+            Ok(low)
+        }
+        _ => {
+            push_row(alloc, row, rows)?;
+            Ok(row_after(alloc, statement, row)?)
+        }
+    }
+}
+
+/// The registers from one up to another, each with 0.
+fn zeros(alloc: Global, from: u32, to: u32) -> Result<Row, NoMemory>
+    ensures { IfOk result (λ new. (r : ℕ) (a : Atom) → known_in new r a ≡ (nat_le from r && (nat_lt r to && atoms_equal a (Const (pos 0))))) }
+{
+    if to <= from {
+        return Ok(Items::new(alloc));
+    }
+    let mut new = zeros(alloc, from, to - 1)?;
+    push_pair(
+        &mut new,
+        KnownPair {
+            r: to - 1,
+            a: Atom::Const(0),
+        },
+    )?;
+    Ok(new)
+}
+
+/// What is known in a function: before each site, and at the end.
+#[derive(Drop)]
+pub(crate) struct KnownRows {
+    pub rows: Items<Row>,
+    pub end: Row,
+}
+
+/// What each register is known to hold in the function. The only error is want of memory.
+pub(crate) fn known_rows(alloc: Global, f: &Function) -> Result<KnownRows, NoMemory>
+    requires { length f.now.registers ≤ 64 }
+    ensures rows { IfOk result (λ known. AreKnownRows f.now known.rows) }
+    ensures end { IfOk result (λ known. IsLastRow f.now known.end) }
+{
+    let entry = zeros(alloc, f.params, f.registers.as_slice().len() as u32)?;
+    let mut rows = Vec::new(alloc);
+    let end = fill_block(alloc, &f.body, entry.as_slice(), &mut rows)?;
+    Ok(KnownRows {
+        rows: Items::from_vec(rows),
+        end,
+    })
+}

@@ -1,0 +1,11 @@
+il 1
+na x = 0;
+atomic f = 0;
+fn main(p) {
+  reg a, b;
+  a = p;
+  b = a;
+  print b;
+  return 0;
+}
+thread main(7);

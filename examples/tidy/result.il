@@ -1,0 +1,22 @@
+il 1
+na x = 0;
+atomic f = 0;
+fn three() {
+  reg a;
+  a = 3;
+  return a;
+}
+fn mine(p) {
+  reg a;
+  a = p + 1;
+  return a;
+}
+fn main() {
+  reg r;
+  r = call three();
+  print r;
+  r = call mine(r);
+  print r;
+  return 0;
+}
+thread main();

@@ -1,0 +1,10 @@
+il 1
+na x = 0;
+atomic f = 0;
+fn main(p) {
+  reg r;
+  print r;
+  print p;
+  return 0;
+}
+thread main(7);
