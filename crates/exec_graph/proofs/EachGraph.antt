@@ -1,6 +1,5 @@
 -- No list of calls lacks its links.
 use Rattle.std.proofs.Common.{ℕ, zero, suc, List, [], ◌∷◌, ◌++◌, Option, Some, None}
-use Rattle.message_memory.specs.declared.history.Call.{Call}
 use Rattle.exec_graph.specs.declared.links.Link.{Link}
 use Rattle.exec_graph.specs.Links.{AreLinks, NoneLacksReads, NoneLacksRaces}
 use Rattle.exec_graph.proofs.LinkLemmas.{links_push, links_skip, links_none}
