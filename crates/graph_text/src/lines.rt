@@ -1,7 +1,7 @@
 //! The lines of links.
-ghost use Rattle.std.specs.Prelude.{◌≡◌, ◌++◌, ◌∷◌, [], OnOk, codes};
+ghost use Rattle.std.specs.Prelude.{◌≡◌, ◌≤◌, ◌++◌, ◌∷◌, [], OnOk, codes, length};
 ghost use Rattle.std.specs.Fmt.{decimal};
-ghost use Rattle.std.specs.List.{flat_map, join_with_byte, position_or_len};
+ghost use Rattle.std.specs.List.{flat_map, join_with_byte, position, position_or_len};
 ghost use Rattle.text_parts.specs.Lines.{whole_line};
 ghost use Rattle.graph_text.specs.GraphText as spec;
 
@@ -55,14 +55,20 @@ fn push_races(out: &mut Vec<u8>, races: &[Link]) -> Result<(), AllocError>
     Ok(())
 }
 
-/// How many of the races, which come by rising entry, are of entries before this one.
-fn earlier(races: &[Link], entry: u32) -> usize
-    ensures { result ≡ position_or_len (spec.is_from entry) races.now }
+/// The place of the first race that is of this entry or of a later one.
+fn first_from(races: &[Link], entry: u32) -> Option<usize>
+    ensures { result ≡ position (spec.is_from entry) races.now }
 {
-    races
-        .iter()
-        .position(|race| entry <= race.entry)
-        .unwrap_or(races.len())
+    races.iter().position(|race| entry <= race.entry)
+}
+
+/// How many of the races, which come by rising entry, are of entries before this one.
+#[tactic(auto, using(crate::proofs::Places::place_or_length, crate::proofs::Places::place_within))]
+fn earlier(races: &[Link], entry: u32) -> usize
+    ensures count { result ≡ position_or_len (spec.is_from entry) races.now }
+    ensures within { result ≤ length races.now }
+{
+    first_from(races, entry).unwrap_or(races.len())
 }
 
 /// The lines of reads and races, by rising entry.
