@@ -2,7 +2,7 @@
 _seqopt() {
   local word=${COMP_WORDS[COMP_CWORD]} options=
   if ((COMP_CWORD == 1)); then
-    options='check opt tidy validate seq walk run replay gen'
+    options='check opt tidy validate seq walk run replay graph gen'
   elif [[ ${COMP_WORDS[COMP_CWORD - 1]} == --form ]]; then
     options='text summary'
   elif [[ $word == -* ]]; then

@@ -24,4 +24,5 @@ mod GraphFacts
 mod LastSteps
 mod LastGoals
 mod OneGraph
+mod EachGraph
 pub mod Callers

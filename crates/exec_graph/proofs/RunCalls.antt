@@ -1,10 +1,9 @@
 -- A run is a history of its calls.
-use Rattle.std.proofs.Common.{◌≡◌, ℕ, zero, suc, ◌<◌, Bool, true, false, List, [], ◌∷◌, length, set, refl, sym, ap, subst, ◌∙◌, arith}
+use Rattle.std.proofs.Common.{◌≡◌, ℕ, ◌<◌, Bool, true, false, List, [], ◌∷◌, length, set, refl, sym, ap, subst, arith}
 use Rattle.std.proofs.lemmas.List.{set-get_or, get_or-set_same}
 use Rattle.values_undef.specs.Access.{choice_of_event, is_spend}
 use Rattle.values_undef.specs.declared.access.Access.TheVariants as access
 use Rattle.values_undef.specs.declared.access.Choice.{Choice}
-use Rattle.values_undef.specs.declared.access.Choice.TheVariants.{Plain}
 use Rattle.values_undef.specs.declared.access.Event.{Event}
 use Rattle.values_undef.specs.declared.access.Event.TheVariants as event
 use Rattle.values_undef.specs.declared.journal.Entry.{Entry}
@@ -21,7 +20,7 @@ use Rattle.thread_core.specs.Asking.{asked}
 use Rattle.thread_core.specs.Steps.{IsProperStack}
 use Rattle.thread_core.proofs.Callers.{next_proper}
 use Rattle.view_machine.specs.declared.stepped.Stepped.TheVariants as stepped
-use Rattle.view_machine.specs.State.{State, local_in, view_in, next_in, idle, Allows, step_by, after_step, initial_state, declared_values}
+use Rattle.view_machine.specs.State.{State, local_in, view_in, next_in, idle, Allows, step_by, initial_state, declared_values}
 use Rattle.view_machine.specs.Runs.{after_silent, AreSilent, MakesEventBy, after_event_by, IsEntry, after_entry, IsRunFrom, IsJournalRun}
 use Rattle.view_machine.specs.Laws.{IsReached}
 use Rattle.view_machine.specs.Merged.{seen_in}

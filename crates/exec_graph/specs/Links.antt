@@ -42,3 +42,11 @@ ReadsAreOne = (na atomic : List ℤ) (threads : ℕ) (calls : List Call) (one ot
 
 abbrev pub RacesAreOne : Type 0
 RacesAreOne = (calls : List Call) (one other : List Link) → AreRaces calls (length calls) one → AreRaces calls (length calls) other → one ≡ other
+
+-- ---- and no list of calls lacks one: that none is its list contradicts itself
+
+abbrev pub NoneLacksReads : Type 0
+NoneLacksReads = (calls : List Call) (n : ℕ) → ((links : List Link) → AreReads calls n links → ⊥) → ⊥
+
+abbrev pub NoneLacksRaces : Type 0
+NoneLacksRaces = (calls : List Call) (n : ℕ) → ((links : List Link) → AreRaces calls n links → ⊥) → ⊥

@@ -1,7 +1,7 @@
 -- The facts of each command, and its condition where words mean it.
 use Rattle.std.proofs.Common.{ℕ, ◌≤◌, true, false, List, Option, Some, None, arith}
 use Rattle.words.specs.declared.command.Command.{Command}
-use Rattle.words.specs.declared.command.Command.TheVariants.{Check, Opt, Tidy, Validate, Seq, Walk, Run, Replay, Gen}
+use Rattle.words.specs.declared.command.Command.TheVariants.{Check, Opt, Tidy, Validate, Seq, Walk, Run, Replay, Graph, Gen}
 use Rattle.words.specs.Meaning.{GivesNumber, Means}
 use Rattle.reports.specs.Targets.{IsOptimised, IsTidiedTarget}
 use Rattle.tool.specs.Commands.{meaning_of, HasCondition}
@@ -15,6 +15,7 @@ use Rattle.tool.proofs.ValidateFacts.{validate_facts}
 use Rattle.tool.proofs.SeqFacts.{seq_facts}
 use Rattle.tool.proofs.ReportFacts.{report_facts}
 use Rattle.tool.proofs.ReplayFacts.{replay_facts}
+use Rattle.tool.proofs.GraphFacts.{graph_facts}
 use Rattle.tool.proofs.GenFacts.{gen_facts}
 
 pub command_facts : (command : Command) → CommandFacts (meaning_of command)
@@ -26,6 +27,7 @@ command_facts (Seq function) = seq_facts function
 command_facts (Walk order draws steps) = report_facts false IsOptimised (IsWalkOf order draws steps) steps
 command_facts (Run seed steps) = report_facts true IsOptimised (IsThreadedRun seed steps) steps
 command_facts Replay = replay_facts
+command_facts Graph = graph_facts
 command_facts (Gen number functions form) = gen_facts number functions form
 
 gives_budget : (o : Option (List ℕ)) (n : ℕ) → GivesNumber 1 16384 1000 o n → (1 ≤ n) × (n ≤ 16384)

@@ -31,7 +31,7 @@ checks_have_an_output bytes = go (each_answer bytes)
     go (inl x) = (accepted_line, status.Done, inl (record { program = x.0; spelled = x.1; written = refl; status = refl }))
     go (inr x) = (refusal_line (rule_word x.0.rule) x.0.line x.0.column, status.Input, inr (record { refusal = x.0; first = x.1; written = refl; status = refl }))
 
-abbrev SameOutput : (one other : List ℕ) → (s t : Status) → Type 0
+abbrev pub SameOutput : (one other : List ℕ) → (s t : Status) → Type 0
 SameOutput one other s t = (one ≡ other) × (s ≡ t)
 
 pub text_refused_once : (bytes one other : List ℕ) (s t : Status) → IsTextRefusal bytes one s → IsTextRefusal bytes other t → SameOutput one other s t
@@ -60,7 +60,7 @@ judged_once bytes one other s t x y =
     verdict_told_once x.ending x.verdict one other s t x.output
     (subst (λ (given : Ending). IsVerdictOutput given x.verdict other t) (sym same.2) (subst (λ (v : Verdict). IsVerdictOutput y.ending v other t) verdict y.output))
 
-replay_refused_once : (bytes one other : List ℕ) (s t : Status) → IsReplayRefusal bytes one s → IsReplayRefusal bytes other t → SameOutput one other s t
+pub replay_refused_once : (bytes one other : List ℕ) (s t : Status) → IsReplayRefusal bytes one s → IsReplayRefusal bytes other t → SameOutput one other s t
 replay_refused_once bytes one other s t x y =
     let same = one_refusal bytes x.refusal y.refusal x.first y.first in
     (x.written ∙ ap (λ (r : Refusal TextRule). refusal_line (text_rule_word r.rule) r.line r.column) same ∙ sym y.written, x.status ∙ sym y.status)
@@ -73,7 +73,7 @@ replays_have_one_output bytes one other s t (inr x) (inr y) = replay_refused_onc
 
 -- ---- no input lacks an output
 
-same_ending : (e f : Ending) → (e ≡ f) ⊎ (e ≡ f → ⊥)
+pub same_ending : (e f : Ending) → (e ≡ f) ⊎ (e ≡ f → ⊥)
 same_ending ending.Done ending.Done = inl refl
 same_ending ending.Failed ending.Failed = inl refl
 same_ending ending.Spent ending.Spent = inl refl

@@ -1,7 +1,7 @@
 -- The table of the commands: what each of them means.
 use Rattle.std.specs.Prelude.{◌≡◌, ℕ, true, false, List, Option}
 use Rattle.words.specs.declared.command.Command.{Command}
-use Rattle.words.specs.declared.command.Command.TheVariants.{Check, Opt, Tidy, Validate, Seq, Walk, Run, Replay, Gen}
+use Rattle.words.specs.declared.command.Command.TheVariants.{Check, Opt, Tidy, Validate, Seq, Walk, Run, Replay, Graph, Gen}
 use Rattle.tool.specs.declared.status.Status.{Status}
 use Rattle.tool.specs.Meaning.{CommandMeaning}
 use Rattle.tool.specs.Check.{check_meaning}
@@ -12,6 +12,7 @@ use Rattle.tool.specs.Seq.{seq_meaning}
 use Rattle.tool.specs.Walk.{walk_meaning}
 use Rattle.tool.specs.Run.{run_meaning}
 use Rattle.tool.specs.Replay.{replay_meaning}
+use Rattle.tool.specs.Graph.{graph_meaning}
 use Rattle.tool.specs.Gen.{gen_meaning}
 
 abbrev pub meaning_of : Command → CommandMeaning
@@ -23,6 +24,7 @@ meaning_of (Seq function) = seq_meaning function
 meaning_of (Walk order draws steps) = walk_meaning order draws steps
 meaning_of (Run seed steps) = run_meaning seed steps
 meaning_of Replay = replay_meaning
+meaning_of Graph = graph_meaning
 meaning_of (Gen number functions form) = gen_meaning number functions form
 
 -- the most bytes that the input of a command may have, where it reads any

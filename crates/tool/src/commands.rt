@@ -7,6 +7,7 @@ ghost use Rattle.tool.specs.Outputs.{IsWithinLimit};
 
 mod checking;
 mod generating;
+mod graphing;
 mod optimising;
 mod replaying;
 pub(crate) mod running;
@@ -35,7 +36,7 @@ pub(crate) fn limit(command: &Command) -> Option<u64>
         | Command::Walk { .. }
         | Command::Run { .. } => Some(TEXT_LIMIT),
         Command::Validate | Command::Seq { .. } => Some(4_194_304),
-        Command::Replay => Some(134_217_728),
+        Command::Replay | Command::Graph => Some(134_217_728),
         Command::Gen { .. } => None,
     }
 }
@@ -70,6 +71,7 @@ pub(crate) fn output_of<R: Threads + Sync>(
         } => walking::output(alloc, rt, order.turns.as_slice(), draws, *steps, input),
         Command::Run { .. } => unreachable!(),
         Command::Replay => replaying::output(alloc, input),
+        Command::Graph => graphing::output(alloc, input),
         Command::Gen {
             number,
             functions,

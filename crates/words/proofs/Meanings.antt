@@ -26,7 +26,7 @@ use Rattle.words.specs.Options.{Options, AllowsSettings, is_option, value_of}
 use Rattle.words.specs.Program.{clap_program, row_of}
 use Rattle.words.specs.Spelling.{Setting, WordText}
 use Rattle.words.specs.declared.command.Command.{Command}
-use Rattle.words.specs.declared.command.Command.TheVariants.{Check, Gen, Opt, Replay, Run, Seq, Tidy, Validate, Walk}
+use Rattle.words.specs.declared.command.Command.TheVariants.{Check, Gen, Graph, Opt, Replay, Run, Seq, Tidy, Validate, Walk}
 use Rattle.words.specs.declared.command.Drawing.{Drawing}
 use Rattle.words.specs.declared.command.Drawing.TheVariants.{Seed, Picks}
 use Rattle.words.specs.declared.command.Form.{Form}
@@ -169,6 +169,7 @@ listed (Seq function) = record { found = refl; named = refl; no_dash = refl }
 listed (Walk order draws steps) = record { found = refl; named = refl; no_dash = refl }
 listed (Run seed steps) = record { found = refl; named = refl; no_dash = refl }
 listed Replay = record { found = refl; named = refl; no_dash = refl }
+listed Graph = record { found = refl; named = refl; no_dash = refl }
 listed (Gen number functions form) = record { found = refl; named = refl; no_dash = refl }
 
 -- a name of a list of options is that of the first, or of the rest
@@ -283,6 +284,7 @@ one_command os Check Check same s t = refl
 one_command os Opt Opt same s t = refl
 one_command os Validate Validate same s t = refl
 one_command os Replay Replay same s t = refl
+one_command os Graph Graph same s t = refl
 one_command os (Seq function) (Seq function') same s t =
     let functions : function ≡ function' = one_word function function' (value_of (codes "function") os) s t in
     cc

@@ -35,6 +35,9 @@ run_words = (codes "run", (codes "seed", false) ∷ ((codes "steps", false) ∷ 
 abbrev pub replay_words : CommandWords
 replay_words = (codes "replay", [])
 
+abbrev pub graph_words : CommandWords
+graph_words = (codes "graph", [])
+
 abbrev pub gen_words : CommandWords
 gen_words = (codes "gen", (codes "number", true) ∷ ((codes "functions", false) ∷ ((codes "form", false) ∷ [])))
 
@@ -48,5 +51,6 @@ commands =
     ∷ (walk_words
     ∷ (run_words
     ∷ (replay_words
+    ∷ (graph_words
     ∷ (gen_words
     ∷ []))))))))

@@ -58,6 +58,8 @@ pub enum Command {
     },
     /// Judge the journal of a run.
     Replay,
+    /// Tell the execution graph of the journal of a run.
+    Graph,
     /// Make a program of so many functions from a number.
     Gen {
         number: u64,

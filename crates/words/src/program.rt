@@ -95,5 +95,6 @@ pub(crate) fn program<'a>(alloc: Global) -> Result<Command<'a>, AllocError>
         .subcommand(walking(alloc, "walk")?)?
         .subcommand(run(alloc)?)?
         .subcommand(plain(alloc, "replay"))?
+        .subcommand(plain(alloc, "graph"))?
         .subcommand(generating(alloc)?)
 }

@@ -275,6 +275,7 @@ fn command(alloc: Global, name: &str, settings: &ArgMatches) -> Result<Command, 
         "walk" => walk(alloc, settings),
         "run" => run(settings),
         "replay" => Ok(Command::Replay),
+        "graph" => Ok(Command::Graph),
         "gen" => generating(settings),
         _ => Err(WordsFault::Refused),
     }
@@ -301,7 +302,7 @@ fn has_dashes(words: &Words) -> bool
 ///   else 1000)
 /// - `tidy`: as for `walk`
 /// - `run`: `--seed` and `--steps`, as for `walk`
-/// - `replay`
+/// - `replay`, `graph`
 /// - `gen`: `--number` (required, a number of 64 bits), `--functions` (1 to 256, else 4), `--form`
 ///   (`text` or `summary`, else `text`)
 pub fn read_words(alloc: Global, words: &Words) -> Result<Command, WordsFault>

@@ -1,6 +1,7 @@
 //! `replay`: whether the journal of an input is a run of its program.
 ghost use Rattle.std.specs.Prelude.{◌≡◌, ◌<◌, ◌-◌, ◌^◌, length, IfOk};
-ghost use Rattle.tool.specs.Replay.{IsReplayOutput, IsVerdictOutput, ending_word, why_word};
+ghost use Rattle.tool.specs.declared.status.Status.TheVariants as status;
+ghost use Rattle.tool.specs.Replay.{IsReplayOutput, IsVerdictOutput, ending_word, why_word, other_ending_line, no_entry_line};
 
 use crate::answer::{Output, refused, written};
 use crate::memory::Memory;
@@ -34,6 +35,22 @@ fn why_word(why: Why) -> &'static str
     }
 }
 
+/// The output for a run that ends so and was given with another ending.
+pub(crate) fn other_ending(alloc: Global, ending: Ending) -> Result<Output, NoMemory>
+    ensures { IfOk result (λ o. (o.bytes.items ≡ other_ending_line ending) × (o.status ≡ status.No)) }
+{
+    let text = format!(in alloc; "no end {}\n", ending_word(ending))?;
+    written(alloc, text.as_str(), Status::No)
+}
+
+/// The output for a journal whose first entry that is no run's is this one.
+pub(crate) fn no_entry(alloc: Global, entry: u64, why: Why) -> Result<Output, NoMemory>
+    ensures { IfOk result (λ o. (o.bytes.items ≡ no_entry_line entry why) × (o.status ≡ status.No)) }
+{
+    let text = format!(in alloc; "no entry {entry} {}\n", why_word(why))?;
+    written(alloc, text.as_str(), Status::No)
+}
+
 /// The output for a verdict on a journal that was given with this ending.
 fn told(alloc: Global, given: Ending, verdict: Verdict) -> Result<Output, NoMemory>
     ensures { IfOk result (λ o. IsVerdictOutput given verdict o.bytes.items o.status) }
@@ -43,14 +60,8 @@ fn told(alloc: Global, given: Ending, verdict: Verdict) -> Result<Output, NoMemo
             let text = format!(in alloc; "run {}\n", ending_word(ending))?;
             written(alloc, text.as_str(), Status::Done)
         }
-        Verdict::Run { ending } => {
-            let text = format!(in alloc; "no end {}\n", ending_word(ending))?;
-            written(alloc, text.as_str(), Status::No)
-        }
-        Verdict::NotAStep { entry, why } => {
-            let text = format!(in alloc; "no entry {entry} {}\n", why_word(why))?;
-            written(alloc, text.as_str(), Status::No)
-        }
+        Verdict::Run { ending } => other_ending(alloc, ending),
+        Verdict::NotAStep { entry, why } => no_entry(alloc, entry, why),
     }
 }
 
