@@ -53,4 +53,4 @@ commands =
     ∷ (replay_words
     ∷ (graph_words
     ∷ (gen_words
-    ∷ []))))))))
+    ∷ [])))))))))
