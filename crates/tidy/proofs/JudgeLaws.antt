@@ -125,8 +125,8 @@ refused_at test n None site h e = absurd (none-some site e)
 refused_at test n (Some s) site h e = subst (λ (k : ℕ). (k < n) × ((earlier : ℕ) → earlier < k → test earlier ≡ true) × (test k ≡ false)) (same_Some s site e) h
 
 pub none_refused : (test : ℕ → Bool) (n : ℕ) (o : Option ℕ) → IsFirstRefused test n o → ((site : ℕ) → o ≡ Some site → ⊥) → (site : ℕ) → site < n → test site ≡ true
-none_refused test n None h no = h
-none_refused test n (Some s) h no = absurd (no s refl)
+none_refused test n None h never = h
+none_refused test n (Some s) h never = absurd (never s refl)
 
 -- ---- the answers
 
