@@ -1,6 +1,5 @@
 -- What the tests of two functions say of them.
-use Rattle.std.proofs.Common.{◌≡◌, ◌<◌, ◌≤◌, ℕ, zero, suc, ◌+◌, Bool, true, false, ◌&&◌, ◌==◌, eqb, List, [], ◌∷◌, length, map, get_or, Option, Some, None, slice_get, refl, sym, ap, ◌∙◌, subst, ⊎_elim, arith}
-use Rattle.std.specs.Prelude.{◌↔◌}
+use Rattle.std.proofs.Common.{◌≡◌, ◌<◌, ◌≤◌, ℕ, zero, suc, Bool, true, false, ◌&&◌, ◌==◌, eqb, List, [], ◌∷◌, map, get_or, Option, Some, None, slice_get, refl, sym, ap, ◌∙◌, subst, ⊎_elim, arith}
 use Rattle.std.specs.Str.{bytes_eq}
 use Rattle.std.proofs.lemmas.Bool.{false≢true, and_parts, and_from, eqb-true, eq-eqb, both_ways, cases_lt}
 use Rattle.std.proofs.lemmas.Option.{none-some, same_Some}
@@ -9,14 +8,14 @@ use Rattle.il_syntax.specs.declared.statement.Stmt.{Stmt}
 use Rattle.il_syntax.specs.declared.program.Function.{Function}
 use Rattle.il_syntax.specs.Statements.{Head, head_of}
 use Rattle.il_paths.specs.Tree.{Tree, Empty, Then, IfThen, WhileThen, tree_of, heads_in, sites_of}
-use Rattle.il_paths.proofs.Callers.{length-heads_in, site_within}
+use Rattle.il_paths.proofs.Callers.{site_within}
 use Rattle.tidy.specs.declared.known.KnownPair.{KnownPair}
 use Rattle.tidy.specs.declared.judging.Tidiness.{Tidiness}
 use Rattle.tidy.specs.declared.judging.Tidiness.TheVariants.{Yes, No}
 use Rattle.tidy.specs.Known.{IsKnownAtEnd}
 use Rattle.tidy.specs.Live.{AreLiveSets}
-use Rattle.tidy.specs.Accepts.{StandsFor, StatementAccepted, SameBlocks, StatementsAccepted, TidyAccepts}
-use Rattle.tidy.specs.Judged.{SameFrame, AcceptedAt, IsFirstRefusal, is_frame, is_statement, is_result, IsTidiness}
+use Rattle.tidy.specs.Accepts.{SameBlocks, StatementsAccepted, TidyAccepts}
+use Rattle.tidy.specs.Judged.{SameFrame, AcceptedAt, IsFirstRefusal, is_frame, is_statement, is_result}
 use Rattle.tidy.specs.Rows.{AreKnownRows, IsLastRow}
 use Rattle.tidy.specs.Laws.{TidinessIsOne, YesIsAccepted}
 use Rattle.tidy.specs.Decided.{stands_in, statement_accepted, pair_accepted, accepted_in, names_equal, same_blocks, same_frame, IsFirstRefused}
