@@ -1,6 +1,5 @@
 -- What the tests of two functions say of them.
-use Rattle.std.proofs.Common.{◌≡◌, ◌<◌, ◌≤◌, ℕ, zero, suc, ◌+◌, Bool, true, false, ◌&&◌, ◌==◌, eqb, List, [], ◌∷◌, length, map, get_or, Option, Some, None, slice_get, refl, sym, ap, ◌∙◌, subst, ⊎_elim, arith}
-use Rattle.std.specs.Prelude.{◌↔◌}
+use Rattle.std.proofs.Common.{◌≡◌, ◌<◌, ◌≤◌, ℕ, zero, suc, Bool, true, false, ◌&&◌, ◌==◌, eqb, List, [], ◌∷◌, map, get_or, Option, Some, None, slice_get, refl, sym, ap, ◌∙◌, subst, ⊎_elim, arith}
 use Rattle.std.specs.Str.{bytes_eq}
 use Rattle.std.proofs.lemmas.Bool.{false≢true, and_parts, and_from, eqb-true, eq-eqb, both_ways, cases_lt}
 use Rattle.std.proofs.lemmas.Option.{none-some, same_Some}
@@ -9,14 +8,14 @@ use Rattle.il_syntax.specs.declared.statement.Stmt.{Stmt}
 use Rattle.il_syntax.specs.declared.program.Function.{Function}
 use Rattle.il_syntax.specs.Statements.{Head, head_of}
 use Rattle.il_paths.specs.Tree.{Tree, Empty, Then, IfThen, WhileThen, tree_of, heads_in, sites_of}
-use Rattle.il_paths.proofs.Callers.{length-heads_in, site_within}
+use Rattle.il_paths.proofs.Callers.{site_within}
 use Rattle.tidy.specs.declared.known.KnownPair.{KnownPair}
 use Rattle.tidy.specs.declared.judging.Tidiness.{Tidiness}
 use Rattle.tidy.specs.declared.judging.Tidiness.TheVariants.{Yes, No}
 use Rattle.tidy.specs.Known.{IsKnownAtEnd}
 use Rattle.tidy.specs.Live.{AreLiveSets}
-use Rattle.tidy.specs.Accepts.{StandsFor, StatementAccepted, SameBlocks, StatementsAccepted, TidyAccepts}
-use Rattle.tidy.specs.Judged.{SameFrame, AcceptedAt, IsFirstRefusal, is_frame, is_statement, is_result, IsTidiness}
+use Rattle.tidy.specs.Accepts.{SameBlocks, StatementsAccepted, TidyAccepts}
+use Rattle.tidy.specs.Judged.{SameFrame, AcceptedAt, IsFirstRefusal, is_frame, is_statement, is_result}
 use Rattle.tidy.specs.Rows.{AreKnownRows, IsLastRow}
 use Rattle.tidy.specs.Laws.{TidinessIsOne, YesIsAccepted}
 use Rattle.tidy.specs.Decided.{stands_in, statement_accepted, pair_accepted, accepted_in, names_equal, same_blocks, same_frame, IsFirstRefused}
@@ -119,6 +118,15 @@ head_listed [] site s e = absurd (none-some s e)
 head_listed (x ∷ xs) zero s e = ap (λ (y : Stmt). Some (head_of y)) (same_Some x s e)
 head_listed (x ∷ xs) (suc site) s e = head_listed xs site s e
 
+-- the first that is refused, or none
+pub refused_at : (test : ℕ → Bool) (n : ℕ) (o : Option ℕ) (site : ℕ) → IsFirstRefused test n o → o ≡ Some site → (site < n) × ((earlier : ℕ) → earlier < site → test earlier ≡ true) × (test site ≡ false)
+refused_at test n None site h e = absurd (none-some site e)
+refused_at test n (Some s) site h e = subst (λ (k : ℕ). (k < n) × ((earlier : ℕ) → earlier < k → test earlier ≡ true) × (test k ≡ false)) (same_Some s site e) h
+
+pub none_refused : (test : ℕ → Bool) (n : ℕ) (o : Option ℕ) → IsFirstRefused test n o → ((site : ℕ) → o ≡ Some site → ⊥) → (site : ℕ) → site < n → test site ≡ true
+none_refused test n None h never = h
+none_refused test n (Some s) h never = absurd (never s refl)
+
 -- ---- the answers
 
 module _ (f g : Function) (rows : List (List KnownPair)) (end : List KnownPair) (sets : List (List ℕ)) (olds news : List Stmt) (known : AreKnownRows f rows) (last : IsLastRow f end) (live : AreLiveSets g sets)
@@ -214,7 +222,7 @@ tidiness_is_one f g Yes (No site) a b = absurd (not_both f g site a b)
 tidiness_is_one f g (No site) Yes a b = absurd (not_both f g site b a)
 tidiness_is_one f g (No m) (No n) a b = ap No (one_site f g m n a b)
 
-is_yes : Tidiness → Bool
+abbrev is_yes : Tidiness → Bool
 is_yes Yes = true
 is_yes (No site) = false
 
