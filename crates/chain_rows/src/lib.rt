@@ -9,3 +9,5 @@ mod facts;
 mod pairs;
 #[cfg(test)]
 mod tables;
+#[cfg(test)]
+mod tidied;

@@ -59,3 +59,24 @@ gives_put (Print a) bs = refl
 gives_put (If a _ _) bs = refl
 gives_put (While a _) bs = refl
 gives_put (Call r f args) bs = refl
+
+own_update : (kind : Rmw) → update_with kind (atoms_of_update kind) ≡ kind
+own_update (Add a) = refl
+own_update (Swap a) = refl
+own_update (Cas a b) = refl
+
+-- with its own atoms it is itself
+pub own_atoms : (h : Head) → with_atoms h (atoms_in h) ≡ h
+own_atoms Skip = refl
+own_atoms (Copy r a) = refl
+own_atoms (Compute r op a b) = refl
+own_atoms (Load r x) = refl
+own_atoms (Store x a) = refl
+own_atoms (AtomicLoad r order y) = refl
+own_atoms (AtomicStore order y a) = refl
+own_atoms (Update r order y kind) = ap (Update r order y) (own_update kind)
+own_atoms (Fence order) = refl
+own_atoms (Print a) = refl
+own_atoms (If a _ _) = refl
+own_atoms (While a _) = refl
+own_atoms (Call r f args) = refl

@@ -1,8 +1,9 @@
 -- The statements of a tree one after the other, and blocks beside blocks.
-use Rattle.std.proofs.Common.{◌≡◌, ℕ, zero, suc, ◌+◌, ◌<◌, ◌≤◌, Bool, true, false, ◌&&◌, eqb, List, [], ◌∷◌, ◌++◌, length, get_or, drop, drop-cons, add-one, refl, sym, ap, ◌∙◌, append_assoc, append-nil, ⊎_elim, arith}
+use Rattle.std.proofs.Common.{◌≡◌, ℕ, zero, suc, ◌+◌, ◌<◌, ◌≤◌, Bool, true, false, ◌&&◌, eqb, List, [], ◌∷◌, ◌++◌, length, map, get_or, drop, drop-cons, add-one, refl, sym, ap, ◌∙◌, append_assoc, append-nil, ⊎_elim, arith}
 use Rattle.std.proofs.lemmas.Bool.{cases_lt, cases_eq, eq-eqb, ne_eqb}
 use Rattle.std.proofs.lemmas.List.{drop_all}
 use Rattle.il_syntax.specs.declared.statement.Stmt.{Stmt}
+use Rattle.il_syntax.specs.Statements.{Head, head_of}
 use Rattle.il_paths.specs.Tree.{Tree, Empty, before_rest, tree_of_all, heads_in}
 use Rattle.il_paths.proofs.Callers.{Shape, plain_shape, if_shape, while_shape, shape_of, tree_of-drop}
 use Rattle.tidy.specs.Decided.{same_blocks}
@@ -14,6 +15,10 @@ heads_in-put put rest (while_shape a body f) = rw (f rest, f Empty) (simp (appen
 
 pub heads_in-drop : (ss : List Stmt) (i : ℕ) (s : Stmt) → i < length ss → s ≡ get_or ss i s → heads_in (tree_of_all (drop i ss)) ≡ heads_in (before_rest s Empty) ++ heads_in (tree_of_all (drop (i + 1) ss))
 heads_in-drop ss i s h e = ap heads_in (tree_of-drop ss i s h e) ∙ heads_in-put (before_rest s) (tree_of_all (drop (i + 1) ss)) (shape_of s)
+
+pub heads_push : (xs : List Stmt) (s : Stmt) → map head_of (xs ++ s ∷ []) ≡ map head_of xs ++ head_of s ∷ []
+heads_push [] s = refl
+heads_push (x ∷ xs) s = ap (λ (hs : List Head). head_of x ∷ hs) (heads_push xs s)
 
 -- ---- blocks
 

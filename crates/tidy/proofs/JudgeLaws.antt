@@ -119,6 +119,15 @@ head_listed [] site s e = absurd (none-some s e)
 head_listed (x ∷ xs) zero s e = ap (λ (y : Stmt). Some (head_of y)) (same_Some x s e)
 head_listed (x ∷ xs) (suc site) s e = head_listed xs site s e
 
+-- the first that is refused, or none
+pub refused_at : (test : ℕ → Bool) (n : ℕ) (o : Option ℕ) (site : ℕ) → IsFirstRefused test n o → o ≡ Some site → (site < n) × ((earlier : ℕ) → earlier < site → test earlier ≡ true) × (test site ≡ false)
+refused_at test n None site h e = absurd (none-some site e)
+refused_at test n (Some s) site h e = subst (λ (k : ℕ). (k < n) × ((earlier : ℕ) → earlier < k → test earlier ≡ true) × (test k ≡ false)) (same_Some s site e) h
+
+pub none_refused : (test : ℕ → Bool) (n : ℕ) (o : Option ℕ) → IsFirstRefused test n o → ((site : ℕ) → o ≡ Some site → ⊥) → (site : ℕ) → site < n → test site ≡ true
+none_refused test n None h never = h
+none_refused test n (Some s) h never = absurd (never s refl)
+
 -- ---- the answers
 
 module _ (f g : Function) (rows : List (List KnownPair)) (end : List KnownPair) (sets : List (List ℕ)) (olds news : List Stmt) (known : AreKnownRows f rows) (last : IsLastRow f end) (live : AreLiveSets g sets)
@@ -214,7 +223,7 @@ tidiness_is_one f g Yes (No site) a b = absurd (not_both f g site a b)
 tidiness_is_one f g (No site) Yes a b = absurd (not_both f g site b a)
 tidiness_is_one f g (No m) (No n) a b = ap No (one_site f g m n a b)
 
-is_yes : Tidiness → Bool
+abbrev is_yes : Tidiness → Bool
 is_yes Yes = true
 is_yes (No site) = false
 

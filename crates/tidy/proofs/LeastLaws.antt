@@ -4,7 +4,7 @@ use Rattle.std.proofs.lemmas.Bool.{false≢true, or_cases, or_left, or_right, an
 use Rattle.std.proofs.lemmas.Option.{none-some, same_Some}
 use Rattle.il_syntax.specs.declared.statement.Atom.{Atom}
 use Rattle.il_syntax.specs.declared.program.Function.{Function}
-use Rattle.il_paths.specs.Atoms.{atoms_equal, AtMost, first_of}
+use Rattle.il_paths.specs.Atoms.{atoms_equal, AtMost, comes_first, first_of}
 use Rattle.il_paths.specs.Tree.{tree_of, sites_of}
 use Rattle.il_paths.proofs.Callers.{atoms_equal-true, atoms_equal-refl, at_most_self, at_most_trans, lower_is}
 use Rattle.tidy.specs.declared.known.KnownPair.{KnownPair}

@@ -13,7 +13,7 @@ use Rattle.il_paths.specs.Meets.{fold_backward, IsMeetAfter}
 use Rattle.path_meets.specs.Chain.{may_rank}
 use Rattle.path_meets.specs.Walks.{meet}
 use Rattle.location_sets.specs.Sets.{has}
-use Rattle.backward_sets.specs.Meets.{IsOrdered, AreMeetsAfter}
+use Rattle.backward_sets.specs.Meets.{KeepsOrder, AreMeetsAfter}
 use Rattle.tidy.specs.Atoms.{reads_register}
 use Rattle.tidy.specs.Live.{IsWanted, is_result, is_read, is_kept, IsLive, live_change, AreLiveSets}
 use Rattle.il_paths.specs.Atoms.{atoms_equal}
@@ -35,8 +35,8 @@ steady_or true q a b h = omega arith
 steady_or false true a b h = h
 steady_or false false a b h = omega arith
 
-pub ordered : IsOrdered may_rank live_change
-ordered = record { bounded = bounded; steady = λ r head a b h. steady_or (reads_register r head) (not (option_map_or (λ k. eqb k r) (gives head) false)) a b h }
+pub ordered : KeepsOrder may_rank live_change
+ordered = record { bounded = bounded; monotone = λ r v a b h. steady_or (reads_register r v.head) (not (option_map_or (λ k. eqb k r) (gives v.head) false)) a b h }
 
 gives_not : (o : Option ℕ) (r : ℕ) → option_map_or (λ k. eqb k r) o false ≡ false → o ≡ Some r → ⊥
 gives_not None r h e = none-some r e

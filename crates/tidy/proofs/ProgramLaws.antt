@@ -6,12 +6,12 @@ use Rattle.std.proofs.lemmas.List.{drop_all, append-nil}
 use Rattle.il_syntax.specs.declared.program.Function.{Function}
 use Rattle.il_syntax.specs.declared.program.Program.{Program}
 use Rattle.il_syntax.specs.Statements.{site_count}
-use Rattle.il_syntax.specs.WellFormed.{Declared, declared_by, IsFunctionWellFormed, IsWellFormed}
+use Rattle.il_syntax.specs.WellFormed.{Declared, declared_by, with_functions, IsFunctionWellFormed, IsWellFormed}
 use Rattle.il_syntax.specs.Checks.{function_fits}
 use Rattle.il_syntax.proofs.Callers.{function_fits-is_well_formed, well_formed-function_fits, functions_fit, functions_replaced, function_small}
 use Rattle.tidy.specs.Tidied.{IsTidied}
 use Rattle.tidy.specs.Accepts.{TidyAccepts}
-use Rattle.tidy.specs.Programs.{TidiedProgramsAreAccepted, TidiedProgramsFit}
+use Rattle.tidy.specs.Programs.{IsTidiedProgram, TidiedProgramsAreAccepted, TidiedProgramsFit}
 use Rattle.tidy.proofs.Acceptance.{tidied_is_accepted}
 use Rattle.tidy.proofs.Fits.{tidied_fits}
 
@@ -48,6 +48,11 @@ programs_fit p q w t =
     let s = all_fit (declared_by p) p.functions q.functions (functions_fit p w) t.functions in
     let same : q ≡ record p { functions = q.functions } = λ i. record { na = t.na i; atomic = t.atomic i; functions = q.functions; threads = t.threads i } in
     subst IsWellFormed (sym same) (functions_replaced p q.functions s.names s.params w s.fit)
+
+-- the program with other functions, which are tidied
+pub tidied_with : (p q : Program) (gs : List Function) → q ≡ with_functions p gs → AllZip IsTidied p.functions gs → IsTidiedProgram p q
+tidied_with p q gs e z =
+    record { na = ap (λ (k : Program). k.na) e; atomic = ap (λ (k : Program). k.atomic) e; threads = ap (λ (k : Program). k.threads) e; functions = subst (AllZip IsTidied p.functions) (sym (ap (λ (k : Program). k.functions) e)) z }
 
 -- ---- for the loop over the functions
 

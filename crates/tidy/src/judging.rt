@@ -1,5 +1,5 @@
 //! Whether a function accepts another, or where it first doesn't.
-ghost use Rattle.std.specs.Prelude.{◌≡◌, ◌≤◌, ◌&&◌, ◌++◌, map, length, slice_index_or, IfOk, OnOk};
+ghost use Rattle.std.specs.Prelude.{◌≡◌, ◌≤◌, [], ◌∷◌, ◌&&◌, ◌++◌, map, length, slice_index_or, IfOk, OnOk};
 ghost use Rattle.il_syntax.specs.Statements.{head_of, site_count};
 ghost use Rattle.il_paths.specs.Tree.{Tree, Empty, tree_of, before_rest, heads_in};
 ghost use Rattle.tidy.specs.Atoms.{update_with, with_atoms};
@@ -19,7 +19,7 @@ use std::alloc::Global;
 use values_undef::{NoMemory, Op, Val, apply};
 
 /// Whether a function accepts another.
-#[derive(Clone, Copy, Debug, PartialEq, Eq)]
+#[derive(Clone, Copy, PartialEq, Eq)]
 pub enum Tidiness {
     Yes,
     /// It doesn't at this site, or, by the number of sites, in what stands at none.
@@ -297,6 +297,16 @@ fn same_kind(statement: &Stmt, other: &Stmt) -> bool
     }
 }
 
+/// Puts the statement, without its blocks, to the end.
+#[tactic(auto, using(crate::proofs::HeadsListed::heads_push, crate::proofs::AtomLaws::own_atoms))]
+fn push_head(alloc: Global, statement: &Stmt, heads: &mut Vec<Stmt>) -> Result<(), NoMemory>
+    ensures { OnOk result (map head_of heads.new.items ≡ map head_of heads.old.items ++ head_of statement.now ∷ []) }
+{
+    let atoms = atoms_of(alloc, statement)?;
+    heads.push(with_atoms(alloc, statement, atoms.as_slice())?)?;
+    Ok(())
+}
+
 /// Puts the statements of a block to the end in text order, each without its blocks.
 #[cycle(heads)]
 fn list_heads(alloc: Global, block: &Block, heads: &mut Vec<Stmt>) -> Result<(), NoMemory>
@@ -313,8 +323,7 @@ fn list_heads(alloc: Global, block: &Block, heads: &mut Vec<Stmt>) -> Result<(),
 fn list_heads_by(alloc: Global, statement: &Stmt, heads: &mut Vec<Stmt>) -> Result<(), NoMemory>
     ensures { OnOk result (map head_of heads.new.items ≡ map head_of heads.old.items ++ heads_in (before_rest statement.now Empty)) }
 {
-    let atoms = atoms_of(alloc, statement)?;
-    heads.push(with_atoms(alloc, statement, atoms.as_slice())?)?;
+    push_head(alloc, statement, heads)?;
     match statement {
         Stmt::If { yes, no, .. } => {
             list_heads(alloc, yes, heads)?;

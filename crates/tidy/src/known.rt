@@ -1,5 +1,6 @@
 //! What each register is known to hold, before each site and at the end.
 ghost use Rattle.std.specs.Prelude.{◌≡◌, ◌<◌, ◌≤◌, ◌+◌, ℕ, pos, Bool, [], ◌∷◌, ◌++◌, not, ◌&&◌, ◌||◌, nat_le, nat_lt, Some, length, IfOk, OnOk};
+ghost use Rattle.std.specs.List.{list_any};
 ghost use Rattle.il_syntax.specs.declared.statement.Atom.{Atom};
 ghost use Rattle.il_syntax.specs.declared.statement.Atom.TheVariants.{Const};
 ghost use Rattle.il_syntax.specs.declared.program.Function.{Function};
@@ -42,14 +43,26 @@ fn push_pair(row: &mut Row, pair: KnownPair) -> Result<(), NoMemory>
     Ok(())
 }
 
-/// The row without the pairs that a register stands in.
-fn without_register(alloc: Global, row: &[KnownPair], k: u32) -> Result<Row, NoMemory>
+/// Whether a register stands in a pair of the row.
+fn is_named(row: &[KnownPair], k: u32) -> bool
+    ensures { result ≡ list_any (λ pair. touches pair.r pair.a (Some k)) row.now }
+{
+    match row {
+        [] => false,
+        [pair, more @ ..] => {
+            (k == pair.r || are_equal(pair.a, Atom::Reg(k))) || is_named(more, k)
+        }
+    }
+}
+
+/// The pairs in which a register doesn't stand.
+fn others(alloc: Global, row: &[KnownPair], k: u32) -> Result<Row, NoMemory>
     ensures { IfOk result (λ new. (r : ℕ) (a : Atom) → known_in new r a ≡ (not (touches r a (Some k)) && known_in row.now r a)) }
 {
     match row {
         [] => Ok(Items::new(alloc)),
         [pair, more @ ..] => {
-            let mut new = without_register(alloc, more, k)?;
+            let mut new = others(alloc, more, k)?;
             if k == pair.r || are_equal(pair.a, Atom::Reg(k)) {
                 return Ok(new);
             }
@@ -57,6 +70,24 @@ fn without_register(alloc: Global, row: &[KnownPair], k: u32) -> Result<Row, NoM
             Ok(new)
         }
     }
+}
+
+/// The row without the pairs in which a register stands. Where there is none it is the row that came, so that a
+/// walk copies few.
+#[tactic(auto, using(crate::proofs::RowLaws::unnamed_stays))]
+fn without_register(alloc: Global, row: Row, k: u32) -> Result<Row, NoMemory>
+    ensures { IfOk result (λ new. (r : ℕ) (a : Atom) → known_in new r a ≡ (not (touches r a (Some k)) && known_in row r a)) }
+{
+    if !is_named(row.as_slice(), k) {
+        return Ok(row);
+    }
+    Ok(others(alloc, row.as_slice(), k)?)
+}
+
+fn copy_row(alloc: Global, row: &[KnownPair]) -> Result<Row, NoMemory>
+    ensures { IfOk result (λ copy. copy ≡ row.now) }
+{
+    Ok(Items::from_slice(alloc, row)?)
 }
 
 /// What is known in both rows.
@@ -77,8 +108,8 @@ fn meet_rows(alloc: Global, one: &[KnownPair], other: &[KnownPair]) -> Result<Ro
 }
 
 /// What is known after a statement that has no blocks.
-fn row_after(alloc: Global, statement: &Stmt, row: &[KnownPair]) -> Result<Row, NoMemory>
-    ensures { IfOk result (λ new. (r : ℕ) (a : Atom) → known_in new r a ≡ known_change r a (head_of statement.now) (known_in row.now r a)) }
+fn row_after(alloc: Global, statement: &Stmt, row: Row) -> Result<Row, NoMemory>
+    ensures { IfOk result (λ new. (r : ℕ) (a : Atom) → known_in new r a ≡ known_change r a (head_of statement.now) (known_in row r a)) }
 {
     match statement {
         Stmt::Copy { r, a } => {
@@ -94,42 +125,44 @@ fn row_after(alloc: Global, statement: &Stmt, row: &[KnownPair]) -> Result<Row, 
         Stmt::AtomicLoad { r, .. } => Ok(without_register(alloc, row, *r)?),
         Stmt::Update { r, .. } => Ok(without_register(alloc, row, *r)?),
         Stmt::Call { r, .. } => Ok(without_register(alloc, row, *r)?),
-        Stmt::Skip => Ok(Items::from_slice(alloc, row)?),
-        Stmt::Store { .. } => Ok(Items::from_slice(alloc, row)?),
-        Stmt::AtomicStore { .. } => Ok(Items::from_slice(alloc, row)?),
-        Stmt::Fence { .. } => Ok(Items::from_slice(alloc, row)?),
-        Stmt::Print { .. } => Ok(Items::from_slice(alloc, row)?),
-        Stmt::If { .. } => Ok(Items::from_slice(alloc, row)?),
-        Stmt::While { .. } => Ok(Items::from_slice(alloc, row)?),
+        Stmt::Skip => Ok(row),
+        Stmt::Store { .. } => Ok(row),
+        Stmt::AtomicStore { .. } => Ok(row),
+        Stmt::Fence { .. } => Ok(row),
+        Stmt::Print { .. } => Ok(row),
+        Stmt::If { .. } => Ok(row),
+        Stmt::While { .. } => Ok(row),
     }
 }
 
 /// What is known after a block.
 #[cycle(exits)]
-fn exit_block(alloc: Global, block: &Block, row: &[KnownPair]) -> Result<Row, NoMemory>
-    ensures { IfOk result (λ new. (r : ℕ) (a : Atom) → known_in new r a ≡ exit_known r a (tree_of block.now) (known_in row.now r a)) }
+fn exit_block(alloc: Global, block: &Block, row: Row) -> Result<Row, NoMemory>
+    ensures { IfOk result (λ new. (r : ℕ) (a : Atom) → known_in new r a ≡ exit_known r a (tree_of block.now) (known_in row r a)) }
 {
-    let mut known = Items::from_slice(alloc, row)?;
+    let mut known = row;
     for statement in block.statements.as_slice() {
-        known = exit(alloc, statement, known.as_slice())?;
+        known = exit(alloc, statement, known)?;
     }
     Ok(known)
 }
 
 /// The same for a statement. One turn of a loop is enough: a pair that a turn loses is lost.
 #[cycle(exits)]
-fn exit(alloc: Global, statement: &Stmt, row: &[KnownPair]) -> Result<Row, NoMemory>
-    ensures { IfOk result (λ new. (r : ℕ) (a : Atom) → known_in new r a ≡ exit_known r a (before_rest statement.now Empty) (known_in row.now r a)) }
+fn exit(alloc: Global, statement: &Stmt, row: Row) -> Result<Row, NoMemory>
+    ensures { IfOk result (λ new. (r : ℕ) (a : Atom) → known_in new r a ≡ exit_known r a (before_rest statement.now Empty) (known_in row r a)) }
 {
     match statement {
         Stmt::If { yes, no, .. } => {
-            let one = exit_block(alloc, yes, row)?;
+            let copy = copy_row(alloc, row.as_slice())?;
+            let one = exit_block(alloc, yes, copy)?;
             let other = exit_block(alloc, no, row)?;
             Ok(meet_rows(alloc, one.as_slice(), other.as_slice())?)
         }
         Stmt::While { body, .. } => {
-            let turn = exit_block(alloc, body, row)?;
-            Ok(meet_rows(alloc, row, turn.as_slice())?)
+            let copy = copy_row(alloc, row.as_slice())?;
+            let turn = exit_block(alloc, body, copy)?;
+            Ok(meet_rows(alloc, row.as_slice(), turn.as_slice())?)
         }
         _ => Ok(row_after(alloc, statement, row)?),
     }
@@ -145,48 +178,40 @@ fn push_row(alloc: Global, row: &[KnownPair], rows: &mut Vec<Row>) -> Result<(),
 
 /// Puts the rows before the sites of a block to the end, and answers what is known after it.
 #[cycle(fills)]
-fn fill_block(
-    alloc: Global,
-    block: &Block,
-    row: &[KnownPair],
-    rows: &mut Vec<Row>,
-) -> Result<Row, NoMemory>
-    ensures after { IfOk result (λ new. (r : ℕ) (a : Atom) → known_in new r a ≡ exit_known r a (tree_of block.now) (known_in row.now r a)) }
-    ensures rows { OnOk result ((r : ℕ) (a : Atom) → known_column r a rows.new.items ≡ known_column r a rows.old.items ++ table_known r a (tree_of block.now) (known_in row.now r a)) }
+fn fill_block(alloc: Global, block: &Block, row: Row, rows: &mut Vec<Row>) -> Result<Row, NoMemory>
+    ensures after { IfOk result (λ new. (r : ℕ) (a : Atom) → known_in new r a ≡ exit_known r a (tree_of block.now) (known_in row r a)) }
+    ensures rows { OnOk result ((r : ℕ) (a : Atom) → known_column r a rows.new.items ≡ known_column r a rows.old.items ++ table_known r a (tree_of block.now) (known_in row r a)) }
 {
-    let mut known = Items::from_slice(alloc, row)?;
+    let mut known = row;
     for statement in block.statements.as_slice() {
-        known = fill(alloc, statement, known.as_slice(), rows)?;
+        known = fill(alloc, statement, known, rows)?;
     }
     Ok(known)
 }
 
 /// The same for a statement.
 #[cycle(fills)]
-fn fill(
-    alloc: Global,
-    statement: &Stmt,
-    row: &[KnownPair],
-    rows: &mut Vec<Row>,
-) -> Result<Row, NoMemory>
-    ensures after { IfOk result (λ new. (r : ℕ) (a : Atom) → known_in new r a ≡ exit_known r a (before_rest statement.now Empty) (known_in row.now r a)) }
-    ensures rows { OnOk result ((r : ℕ) (a : Atom) → known_column r a rows.new.items ≡ known_column r a rows.old.items ++ table_known r a (before_rest statement.now Empty) (known_in row.now r a)) }
+fn fill(alloc: Global, statement: &Stmt, row: Row, rows: &mut Vec<Row>) -> Result<Row, NoMemory>
+    ensures after { IfOk result (λ new. (r : ℕ) (a : Atom) → known_in new r a ≡ exit_known r a (before_rest statement.now Empty) (known_in row r a)) }
+    ensures rows { OnOk result ((r : ℕ) (a : Atom) → known_column r a rows.new.items ≡ known_column r a rows.old.items ++ table_known r a (before_rest statement.now Empty) (known_in row r a)) }
 {
     match statement {
         Stmt::If { yes, no, .. } => {
-            push_row(alloc, row, rows)?;
-            let one = fill_block(alloc, yes, row, rows)?;
+            push_row(alloc, row.as_slice(), rows)?;
+            let copy = copy_row(alloc, row.as_slice())?;
+            let one = fill_block(alloc, yes, copy, rows)?;
             let other = fill_block(alloc, no, row, rows)?;
             Ok(meet_rows(alloc, one.as_slice(), other.as_slice())?)
         }
         Stmt::While { body, .. } => {
             let low = exit(alloc, statement, row)?;
             push_row(alloc, low.as_slice(), rows)?;
-            fill_block(alloc, body, low.as_slice(), rows)?;
+            let copy = copy_row(alloc, low.as_slice())?;
+            fill_block(alloc, body, copy, rows)?;
             Ok(low)
         }
         _ => {
-            push_row(alloc, row, rows)?;
+            push_row(alloc, row.as_slice(), rows)?;
             Ok(row_after(alloc, statement, row)?)
         }
     }
@@ -225,7 +250,7 @@ pub(crate) fn known_rows(alloc: Global, f: &Function) -> Result<KnownRows, NoMem
 {
     let entry = zeros(alloc, f.params, f.registers.as_slice().len() as u32)?;
     let mut rows = Vec::new(alloc);
-    let end = fill_block(alloc, &f.body, entry.as_slice(), &mut rows)?;
+    let end = fill_block(alloc, &f.body, entry, &mut rows)?;
     Ok(KnownRows {
         rows: Items::from_vec(rows),
         end,

@@ -3,7 +3,6 @@ ghost use Rattle.tidy.specs.Programs.{TidiedProgramsAreAccepted, TidiedProgramsF
 ghost use Rattle.tidy.specs.Laws.{TidiedIsAccepted, TidiedFits, TidinessIsOne, YesIsAccepted};
 
 /// A function accepts what it is tidied to.
-#[tactic(auto, using(crate::proofs::Acceptance::tidied_is_accepted))]
 pub fn tidied_is_accepted()
     ensures { TidiedIsAccepted }
 {}

@@ -1,10 +1,8 @@
-use Rattle.std.proofs.Common.{ℕ, ◌+◌, ◌++◌, Bool, List, drop, sym, ap, ◌∙◌, append_assoc}
-use Rattle.il_syntax.specs.declared.statement.Atom.{Atom}
+use Rattle.std.proofs.Common.{◌+◌, ◌++◌, Bool, List, drop, sym, ap, ◌∙◌, append_assoc}
 use Rattle.il_paths.specs.Tree.{Tree, Empty, before_rest, tree_of, tree_of_all}
 use Rattle.il_paths.proofs.Callers.{tree_of-block}
 use Rattle.path_meets.specs.Chain.{must_rank}
 use Rattle.path_meets.proofs.Callers.{exit_tree-drop, table_tree-drop}
-use Rattle.tidy.specs.declared.known.KnownPair.{KnownPair}
 use Rattle.tidy.specs.Known.{known_change}
 use Rattle.tidy.specs.Rows.{known_in, known_column, exit_known, table_known}
 use Rattle.tidy.proofs.known.+fills.Goals as goal
@@ -13,12 +11,8 @@ pub fill_block-loop-statement-init : goal.fill_block-loop-statement-init
 fill_block-loop-statement-init t c =
     let e = sym (tree_of-block c.args.block.now ∙ ap tree_of_all (sym c.as_slice-statement-items.ensures)) in
     record {
-      after = λ r a.
-          ap (λ (tree : Tree). exit_known r a tree (known_in c.in_ok-known.known r a)) e
-          ∙ ap (λ (row : List KnownPair). exit_known r a (tree_of c.args.block.now) (known_in row r a)) c.in_ok-known.ensures;
-      rows = λ r a.
-          ap (λ (tree : Tree). known_column r a c.args.rows.now.items ++ table_known r a tree (known_in c.in_ok-known.known r a)) e
-          ∙ ap (λ (row : List KnownPair). known_column r a c.args.rows.now.items ++ table_known r a (tree_of c.args.block.now) (known_in row r a)) c.in_ok-known.ensures;
+      after = λ r a. ap (λ (tree : Tree). exit_known r a tree (known_in c.args.row r a)) e;
+      rows = λ r a. ap (λ (tree : Tree). known_column r a c.args.rows.now.items ++ table_known r a tree (known_in c.args.row r a)) e;
     }
 
 pub fill_block-loop-statement-preserved : goal.fill_block-loop-statement-preserved
@@ -27,15 +21,13 @@ fill_block-loop-statement-preserved t c =
     let i = c.loop-statement.statement-index in
     let s = c.statement-item.result in
     let old = c.loop-statement.known in
-    let next = λ (r : ℕ) (a : Atom). c.in_ok-known-2.ensures.after r a ∙ ap (λ (row : List KnownPair). exit_known r a (before_rest s Empty) (known_in row r a)) c.as_slice.ensures in
     record {
       after = λ r a.
-          ap (λ (b : Bool). exit_known r a (tree_of_all (drop (i + 1) ss)) b) (next r a)
+          ap (λ (b : Bool). exit_known r a (tree_of_all (drop (i + 1) ss)) b) (c.in_ok-known.ensures.after r a)
           ∙ sym (exit_tree-drop Bool must_rank 1 (known_change r a) ss i s (known_in old r a) c.loop-statement-test.true c.statement-item.is)
           ∙ c.loop-statement.invariant.after r a;
       rows = λ r a.
-          let here = c.in_ok-known-2.ensures.rows r a ∙ ap (λ (row : List KnownPair). known_column r a c.loop-statement.rows.items ++ table_known r a (before_rest s Empty) (known_in row r a)) c.as_slice.ensures in
-          (λ j. here j ++ table_known r a (tree_of_all (drop (i + 1) ss)) (next r a j))
+          (λ j. c.in_ok-known.ensures.rows r a j ++ table_known r a (tree_of_all (drop (i + 1) ss)) (c.in_ok-known.ensures.after r a j))
           ∙ append_assoc (known_column r a c.loop-statement.rows.items) (table_known r a (before_rest s Empty) (known_in old r a)) (table_known r a (tree_of_all (drop (i + 1) ss)) (exit_known r a (before_rest s Empty) (known_in old r a)))
           ∙ ap (λ (bs : List Bool). known_column r a c.loop-statement.rows.items ++ bs) (sym (table_tree-drop Bool must_rank 1 (known_change r a) ss i s (known_in old r a) c.loop-statement-test.true c.statement-item.is))
           ∙ c.loop-statement.invariant.rows r a;

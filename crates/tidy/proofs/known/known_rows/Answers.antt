@@ -23,12 +23,12 @@ pub returns-clause-rows : goal.returns-clause-rows
 returns-clause-rows c =
     let f = c.args.f.now in
     rows_known f c.from_vec.result (λ r a.
-    let entry = ap (λ (row : List KnownPair). known_in row r a) c.as_slice-2.ensures ∙ c.in_ok-entry.ensures r a ∙ ap (λ (names : List (List ℕ)). leb f.params r && (ltb r (length names) && atoms_equal a (Const (pos 0)))) c.as_slice.ensures ∙ entry_at f r a in
+    let entry = c.in_ok-entry.ensures r a ∙ ap (λ (names : List (List ℕ)). leb f.params r && (ltb r (length names) && atoms_equal a (Const (pos 0)))) c.as_slice.ensures ∙ entry_at f r a in
     ap (known_column r a) c.from_vec.ensures ∙ c.in_ok-end.ensures.rows r a ∙ (λ i. known_column r a (c.new-rows.ensures.items i) ++ table_known r a (tree_of f.body) (entry i)))
 
 pub returns-clause-end : goal.returns-clause-end
 returns-clause-end c =
     let f = c.args.f.now in
     end_known f c.in_ok-end.end (λ r a.
-    let entry = ap (λ (row : List KnownPair). known_in row r a) c.as_slice-2.ensures ∙ c.in_ok-entry.ensures r a ∙ ap (λ (names : List (List ℕ)). leb f.params r && (ltb r (length names) && atoms_equal a (Const (pos 0)))) c.as_slice.ensures ∙ entry_at f r a in
+    let entry = c.in_ok-entry.ensures r a ∙ ap (λ (names : List (List ℕ)). leb f.params r && (ltb r (length names) && atoms_equal a (Const (pos 0)))) c.as_slice.ensures ∙ entry_at f r a in
     c.in_ok-end.ensures.after r a ∙ ap (exit_known r a (tree_of f.body)) entry)

@@ -15,6 +15,6 @@ alone false c e = e
 
 pub returns : goal.returns
 returns c =
-    meets_live c.args.f.now c.in_ok-end.end c.in_ok-sets_after.field-0
-    (λ r. c.in_ok-end.ensures r ∙ alone (atoms_equal c.args.f.now.result (Reg r)) _ (ap (has r) (c.as_slice.ensures ∙ c.new-none.ensures)))
-    (subst (λ (end : List ℕ). AreMeetsAfter may_rank live_change (tree_of c.args.f.now.body) end c.in_ok-sets_after.field-0) c.as_slice-2.ensures c.in_ok-sets_after.ensures)
+    meets_live c.args.f.now c.put_atoms.new.set c.in_ok-sets_after.field-0
+    (λ r. c.in_ok-put_atoms.ensures r ∙ alone (atoms_equal c.args.f.now.result (Reg r)) _ (ap (has r) c.new-end.ensures))
+    (subst (λ (end : List ℕ). AreMeetsAfter may_rank live_change (tree_of c.args.f.now.body) end c.in_ok-sets_after.field-0) c.as_slice.ensures c.in_ok-sets_after.ensures)
