@@ -19,7 +19,6 @@ pub fn endings_tell_the_end()
 {}
 
 /// A program has one optimised target, and one that is tidied.
-#[tactic(auto, using(crate::proofs::OneTarget::targets_are_one))]
 pub fn targets_are_one()
     ensures { TargetsAreOne }
 {}
