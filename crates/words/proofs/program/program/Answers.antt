@@ -12,4 +12,5 @@ returns c =
     let fifth = c.in_ok-subcommand-5.ensures.shape c.in_ok-walking.ensures.local ∙ ap₂ with_subcommand fourth (ap (λ (a : App). a.top) c.in_ok-walking.ensures.app) in
     let sixth = c.in_ok-subcommand-6.ensures.shape c.in_ok-run.ensures.local ∙ ap₂ with_subcommand fifth (ap (λ (a : App). a.top) c.in_ok-run.ensures.app) in
     let seventh = c.in_ok-subcommand-7.ensures.shape c.plain-4.ensures.local ∙ ap₂ with_subcommand sixth (ap (λ (a : App). a.top) c.plain-4.ensures.app) in
-    IfOk-weaker c.subcommand-8.result _ _ (λ r h. h.shape c.in_ok-generating.ensures.local ∙ ap₂ with_subcommand seventh (ap (λ (a : App). a.top) c.in_ok-generating.ensures.app)) c.subcommand-8.ensures
+    let eighth = c.in_ok-subcommand-8.ensures.shape c.plain-5.ensures.local ∙ ap₂ with_subcommand seventh (ap (λ (a : App). a.top) c.plain-5.ensures.app) in
+    IfOk-weaker c.subcommand-9.result _ _ (λ r h. h.shape c.in_ok-generating.ensures.local ∙ ap₂ with_subcommand eighth (ap (λ (a : App). a.top) c.in_ok-generating.ensures.app)) c.subcommand-9.ensures
