@@ -194,7 +194,10 @@ fn is_tidied(alloc: Global, text: &str, other: &str) -> Result<bool, NoMemory> {
     };
     let q = tidy_program(alloc, &p)?;
     let printed = print(alloc, &q)?;
-    Ok(printed.bytes.as_slice() == other.as_bytes() && judged(alloc, text, other)? == Some(Tidiness::Yes))
+    Ok(
+        printed.bytes.as_slice() == other.as_bytes()
+            && judged(alloc, text, other)? == Some(Tidiness::Yes),
+    )
 }
 
 #[test]
