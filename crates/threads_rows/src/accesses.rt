@@ -91,7 +91,8 @@ fn is_proper(p: &Program, a: &Access) -> bool
 }
 
 /// An access, what it is to be answered, and whether it was.
-struct Row<'a> {
+#[derive(Drop)]
+struct Asked<'a> {
     access: &'a Access,
     wanted: Answer,
     right: &'a AtomicU64,
@@ -103,7 +104,7 @@ fn access_once<R: Wait>(
     alloc: Global,
     shared: &Shared<PlainMemory>,
     pass: &mut Pass<PlainMemory>,
-    row: &Row<'_>,
+    row: &Asked<'_>,
 )
     requires proper { IsProper (first_memory shared.now.params) row.now.access.now }
     requires ready { IsReadyPass shared.now pass.old }
@@ -125,8 +126,8 @@ fn access_each<R: Threads + Wait + Sync>(
     shared: &Shared<PlainMemory>,
     passes: &mut [Pass<PlainMemory>],
     threads: usize,
-    first: &Row<'_>,
-    second: &Row<'_>,
+    first: &Asked<'_>,
+    second: &Asked<'_>,
 )
     requires some { 0 < threads }
     requires first { IsProper (first_memory shared.now.params) first.now.access.now }
@@ -142,8 +143,11 @@ fn access_each<R: Threads + Wait + Sync>(
             requires { IsProper (first_memory shared.now.params) first.now.access.now × IsProper (first_memory shared.now.params) second.now.access.now × IsReadyPass shared.now pass.now }
             ensures { IsSamePass shared.entry.now pass.entry.now pass.exit.now }
         {
-            let row = if pass.thread() == 0 { first } else { second };
-            access_once(rt, alloc, shared, pass, row);
+            if pass.thread() == 0 {
+                access_once(rt, alloc, shared, pass, first);
+            } else {
+                access_once(rt, alloc, shared, pass, second);
+            }
         },
     );
 }
@@ -154,8 +158,8 @@ fn each_once<R: Threads + Wait + Sync>(
     alloc: Global,
     p: &Program,
     threads: usize,
-    first: &Row<'_>,
-    second: &Row<'_>,
+    first: &Asked<'_>,
+    second: &Asked<'_>,
 ) -> Result<Journal, NoMemory>
     requires some { 0 < threads }
     requires few_na { length p.now.na ≤ 16 }
@@ -183,18 +187,18 @@ fn row<R: Threads + Wait + Sync>(
         return Err("no such row".into());
     }
     let (one, other) = (AtomicU64::new(0), AtomicU64::new(0));
-    let first = Row {
+    let first = Asked {
         access: first.0,
         wanted: first.1,
         right: &one,
     };
-    let second = Row {
+    let second = Asked {
         access: second.0,
         wanted: second.1,
         right: &other,
     };
     let journal = each_once(rt, alloc, &p, threads, &first, &second)?;
-    if one.load(Ordering::SeqCst) + other.load(Ordering::SeqCst) != 2 {
+    if one.load(Ordering::SeqCst) != 1 || other.load(Ordering::SeqCst) != 1 {
         return Err("another answer".into());
     }
     Ok(journal)
