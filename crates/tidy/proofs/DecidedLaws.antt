@@ -1,5 +1,5 @@
 -- The tests of statements say what is accepted.
-use Rattle.std.proofs.Common.{◌≡◌, ◌<◌, ℕ, ℤ, Bool, true, false, not, ◌&&◌, ◌||◌, eqb, List, [], ◌∷◌, get_or, Option, Some, None, refl, sym, ap, ◌∙◌, subst, ⊎_elim}
+use Rattle.std.proofs.Common.{◌≡◌, ◌<◌, ℕ, ℤ, Bool, true, false, not, ◌||◌, eqb, List, [], ◌∷◌, get_or, Option, Some, None, refl, sym, ap, ◌∙◌, subst, ⊎_elim}
 use Rattle.std.specs.Prelude.{◌↔◌}
 use Rattle.std.specs.List.{AllZip}
 use Rattle.std.specs.Option.{option_map_or}
@@ -24,7 +24,7 @@ use Rattle.location_sets.specs.Sets.{has}
 use Rattle.tidy.specs.declared.known.KnownPair.{KnownPair}
 use Rattle.tidy.specs.Atoms.{atoms_in, with_atoms}
 use Rattle.tidy.specs.Known.{IsKnown}
-use Rattle.tidy.specs.Live.{IsLive, AreLiveSets}
+use Rattle.tidy.specs.Live.{AreLiveSets}
 use Rattle.tidy.specs.Propagated.{IsLeast}
 use Rattle.tidy.specs.Accepts.{StandsFor, same, known_for, assigned_register, StatementAccepted, same_but_atoms, is_folded, is_left}
 use Rattle.tidy.specs.Rows.{known_in, AreKnownRows}

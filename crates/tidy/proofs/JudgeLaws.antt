@@ -1,6 +1,5 @@
 -- What the tests of two functions say of them.
-use Rattle.std.proofs.Common.{◌≡◌, ◌<◌, ◌≤◌, ℕ, zero, suc, ◌+◌, Bool, true, false, ◌&&◌, ◌==◌, eqb, List, [], ◌∷◌, length, map, get_or, Option, Some, None, slice_get, refl, sym, ap, ◌∙◌, subst, ⊎_elim, arith}
-use Rattle.std.specs.Prelude.{◌↔◌}
+use Rattle.std.proofs.Common.{◌≡◌, ◌<◌, ◌≤◌, ℕ, zero, suc, Bool, true, false, ◌&&◌, ◌==◌, eqb, List, [], ◌∷◌, map, get_or, Option, Some, None, slice_get, refl, sym, ap, ◌∙◌, subst, ⊎_elim, arith}
 use Rattle.std.specs.Str.{bytes_eq}
 use Rattle.std.proofs.lemmas.Bool.{false≢true, and_parts, and_from, eqb-true, eq-eqb, both_ways, cases_lt}
 use Rattle.std.proofs.lemmas.Option.{none-some, same_Some}
@@ -9,17 +8,18 @@ use Rattle.il_syntax.specs.declared.statement.Stmt.{Stmt}
 use Rattle.il_syntax.specs.declared.program.Function.{Function}
 use Rattle.il_syntax.specs.Statements.{Head, head_of}
 use Rattle.il_paths.specs.Tree.{Tree, Empty, Then, IfThen, WhileThen, tree_of, heads_in, sites_of}
-use Rattle.il_paths.proofs.Callers.{length-heads_in, site_within}
+use Rattle.il_paths.proofs.Callers.{site_within}
 use Rattle.tidy.specs.declared.known.KnownPair.{KnownPair}
 use Rattle.tidy.specs.declared.judging.Tidiness.{Tidiness}
 use Rattle.tidy.specs.declared.judging.Tidiness.TheVariants.{Yes, No}
 use Rattle.tidy.specs.Known.{IsKnownAtEnd}
 use Rattle.tidy.specs.Live.{AreLiveSets}
-use Rattle.tidy.specs.Accepts.{StandsFor, StatementAccepted, SameBlocks, StatementsAccepted, TidyAccepts}
-use Rattle.tidy.specs.Judged.{SameFrame, AcceptedAt, IsFirstRefusal, is_frame, is_statement, is_result, IsTidiness}
+use Rattle.tidy.specs.Accepts.{SameBlocks, StatementsAccepted, TidyAccepts}
+use Rattle.tidy.specs.Judged.{SameFrame, AcceptedAt, IsFirstTidyFault, is_frame, is_statement, is_result}
 use Rattle.tidy.specs.Rows.{AreKnownRows, IsLastRow}
-use Rattle.tidy.specs.Laws.{TidinessIsOne, YesIsAccepted}
-use Rattle.tidy.specs.Decided.{stands_in, statement_accepted, pair_accepted, accepted_in, names_equal, same_blocks, same_frame, IsFirstRefused}
+use Rattle.tidy.specs.Laws.{TidinessIsOne, YesIsAccepted, TidiedIsYes}
+use Rattle.tidy.specs.Decided.{stands_in, statement_accepted, pair_accepted, accepted_in, names_equal, same_blocks, same_frame, IsFirstFailing}
+use Rattle.tidy.proofs.Acceptance.{tidied_is_accepted}
 use Rattle.tidy.proofs.SideBySide.{same_sites}
 use Rattle.tidy.proofs.DecidedLaws.{stands_true, stands_from, accepted_true, accepted_from}
 
@@ -99,7 +99,7 @@ module _ (f g : Function) where
       (and_from registers_test blocks_test (ap (names_equal f.registers) s.registers ∙ names_self f.registers) (blocks_from (tree_of f.body) (tree_of g.body) s.blocks)))
 
   -- the first answer
-  pub frame_differs : (site : ℕ) → same_frame f g ≡ false → site ≡ sites_of (tree_of g.body) → IsFirstRefusal f g site
+  pub frame_differs : (site : ℕ) → same_frame f g ≡ false → site ≡ sites_of (tree_of g.body) → IsFirstTidyFault f g site
   frame_differs site e s = is_frame (λ h. both_ways (same_frame f g) e (frame_from h)) s
 
 -- ---- statements by their sites
@@ -120,11 +120,11 @@ head_listed (x ∷ xs) zero s e = ap (λ (y : Stmt). Some (head_of y)) (same_Som
 head_listed (x ∷ xs) (suc site) s e = head_listed xs site s e
 
 -- the first that is refused, or none
-pub refused_at : (test : ℕ → Bool) (n : ℕ) (o : Option ℕ) (site : ℕ) → IsFirstRefused test n o → o ≡ Some site → (site < n) × ((earlier : ℕ) → earlier < site → test earlier ≡ true) × (test site ≡ false)
+pub refused_at : (test : ℕ → Bool) (n : ℕ) (o : Option ℕ) (site : ℕ) → IsFirstFailing test n o → o ≡ Some site → (site < n) × ((earlier : ℕ) → earlier < site → test earlier ≡ true) × (test site ≡ false)
 refused_at test n None site h e = absurd (none-some site e)
 refused_at test n (Some s) site h e = subst (λ (k : ℕ). (k < n) × ((earlier : ℕ) → earlier < k → test earlier ≡ true) × (test k ≡ false)) (same_Some s site e) h
 
-pub none_refused : (test : ℕ → Bool) (n : ℕ) (o : Option ℕ) → IsFirstRefused test n o → ((site : ℕ) → o ≡ Some site → ⊥) → (site : ℕ) → site < n → test site ≡ true
+pub none_refused : (test : ℕ → Bool) (n : ℕ) (o : Option ℕ) → IsFirstFailing test n o → ((site : ℕ) → o ≡ Some site → ⊥) → (site : ℕ) → site < n → test site ≡ true
 none_refused test n None h never = h
 none_refused test n (Some s) h never = absurd (never s refl)
 
@@ -173,11 +173,11 @@ module _ (f g : Function) (rows : List (List KnownPair)) (end : List KnownPair) 
   all_accepted h site old new stood stands = accepted_there site (h site (site_within (tree_of g.body) site new stands)) old new stood stands
 
   -- a statement is refused
-  pub statement_refused : (n site : ℕ) → n ≡ count → site < n → ((s : ℕ) → s < site → test s ≡ true) → test site ≡ false → IsFirstRefusal f g site
+  pub statement_refused : (n site : ℕ) → n ≡ count → site < n → ((s : ℕ) → s < site → test s ≡ true) → test site ≡ false → IsFirstTidyFault f g site
   statement_refused n site same l earlier e = is_statement frame (subst (λ (m : ℕ). site < m) same l) (λ s k. accepted_there s (earlier s k)) (refused_there site e)
 
   -- the results alone are
-  pub result_refused : (n site : ℕ) → n ≡ count → ((s : ℕ) → s < n → test s ≡ true) → stands_in end f.result g.result ≡ false → site ≡ n → IsFirstRefusal f g site
+  pub result_refused : (n site : ℕ) → n ≡ count → ((s : ℕ) → s < n → test s ≡ true) → stands_in end f.result g.result ≡ false → site ≡ n → IsFirstTidyFault f g site
   result_refused n site same h e s =
       is_result frame (all_accepted (λ i l. h i (subst (λ (m : ℕ). i < m) (sym same) l)))
       (λ k. both_ways (stands_in end f.result g.result) e (stands_from (IsKnownAtEnd f) end (λ r a. last r a) f.result g.result k)) (s ∙ same)
@@ -199,12 +199,12 @@ module _ (f g : Function) (rows : List (List KnownPair)) (end : List KnownPair) 
 frame_of : (f g : Function) → TidyAccepts f g → SameFrame f g
 frame_of f g a = record { name = a.name; params = a.params; registers = a.registers; blocks = a.blocks }
 
-not_both : (f g : Function) (site : ℕ) → TidyAccepts f g → IsFirstRefusal f g site → ⊥
+not_both : (f g : Function) (site : ℕ) → TidyAccepts f g → IsFirstTidyFault f g site → ⊥
 not_both f g site a (is_frame h s) = h (frame_of f g a)
 not_both f g site a (is_statement frame l earlier h) = h (a.statements site)
 not_both f g site a (is_result frame all h s) = h a.result
 
-one_site : (f g : Function) (m n : ℕ) → IsFirstRefusal f g m → IsFirstRefusal f g n → m ≡ n
+one_site : (f g : Function) (m n : ℕ) → IsFirstTidyFault f g m → IsFirstTidyFault f g n → m ≡ n
 one_site f g m n (is_frame h s) (is_frame k t) = s ∙ sym t
 one_site f g m n (is_frame h s) (is_statement frame l earlier k) = absurd (h frame)
 one_site f g m n (is_frame h s) (is_result frame all k t) = absurd (h frame)
@@ -230,3 +230,6 @@ is_yes (No site) = false
 pub yes_is_accepted : YesIsAccepted
 yes_is_accepted f g Yes a = (λ e. a, λ k. refl)
 yes_is_accepted f g (No site) a = (λ e. absurd (false≢true (ap is_yes e)), λ k. absurd (not_both f g site k a))
+
+pub tidied_is_yes : TidiedIsYes
+tidied_is_yes f g answer t a = (yes_is_accepted f g answer a).1 (tidied_is_accepted f g t)

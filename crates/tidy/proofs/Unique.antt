@@ -1,5 +1,5 @@
 -- Along a path a register is known to hold at most one atom.
-use Rattle.std.proofs.Common.{◌≡◌, ◌≤◌, ◌<◌, ℕ, pos, Bool, true, false, not, ◌&&◌, ◌||◌, eqb, nat_le, nat_lt, List, [], ◌∷◌, length, refl, sym, ap, ◌∙◌, subst, ⊎_elim, arith}
+use Rattle.std.proofs.Common.{◌≡◌, ◌≤◌, ◌<◌, ℕ, pos, Bool, true, false, not, ◌&&◌, eqb, nat_le, nat_lt, List, [], ◌∷◌, length, sym, ap, ◌∙◌, ⊎_elim, arith}
 use Rattle.std.specs.Ordering.{int_eq}
 use Rattle.std.proofs.lemmas.Bool.{false≢true, and_parts, or_cases, or_left}
 use Rattle.std.proofs.lemmas.Bool.Decides.{Decides-int_eq}
@@ -16,7 +16,7 @@ use Rattle.il_paths.specs.Meets.{fold_forward}
 use Rattle.il_paths.proofs.Callers.{atoms_equal-true}
 use Rattle.path_meets.specs.Chain.{must_rank}
 use Rattle.path_meets.proofs.Callers.{before_exist}
-use Rattle.tidy.specs.Known.{makes, touches, known_change, known_step, known_at_entry, known_after, IsKnown}
+use Rattle.tidy.specs.Known.{makes, touches, known_change, known_step, known_at_entry, IsKnown}
 
 made_one : (r : ℕ) (a b : Atom) (h : Head) → makes r a h ≡ true → makes r b h ≡ true → a ≡ b
 made_one r a b (Copy k c) e f =

@@ -109,6 +109,6 @@ abbrev pub accepted_in : List (List KnownPair) → List (List ℕ) → List Stmt
 accepted_in rows sets olds news site = pair_accepted (slice_index_or rows site []) (slice_index_or sets site []) (slice_get olds site) (slice_get news site)
 
 -- the first number below a bound that fails the test
-abbrev pub IsFirstRefused : (ℕ → Bool) → ℕ → Option ℕ → Type 0
-IsFirstRefused accepted count first =
+abbrev pub IsFirstFailing : (ℕ → Bool) → ℕ → Option ℕ → Type 0
+IsFirstFailing accepted count first =
     MatchOption first ((site : ℕ) → site < count → accepted site ≡ true) (λ site. (site < count) × ((earlier : ℕ) → earlier < site → accepted earlier ≡ true) × (accepted site ≡ false))

@@ -21,11 +21,11 @@ AcceptedAt f g site = (old new : Head) → slice_get (heads_in (tree_of f.body))
 
 -- The first place at which f doesn't accept g: g's number of statements where heads or blocks differ, else the first
 -- statement that may not stand for the one at its site, else, where the results alone differ, that number again.
-pub data IsFirstRefusal (f g : Function) (site : ℕ) : Type 0 where
-  is_frame : (SameFrame f g → ⊥) → site ≡ sites_of (tree_of g.body) → IsFirstRefusal f g site
-  is_statement : SameFrame f g → site < sites_of (tree_of g.body) → ((s : ℕ) → s < site → AcceptedAt f g s) → (AcceptedAt f g site → ⊥) → IsFirstRefusal f g site
-  is_result : SameFrame f g → StatementsAccepted f g → (StandsFor (IsKnownAtEnd f) f.result g.result → ⊥) → site ≡ sites_of (tree_of g.body) → IsFirstRefusal f g site
+pub data IsFirstTidyFault (f g : Function) (site : ℕ) : Type 0 where
+  is_frame : (SameFrame f g → ⊥) → site ≡ sites_of (tree_of g.body) → IsFirstTidyFault f g site
+  is_statement : SameFrame f g → site < sites_of (tree_of g.body) → ((s : ℕ) → s < site → AcceptedAt f g s) → (AcceptedAt f g site → ⊥) → IsFirstTidyFault f g site
+  is_result : SameFrame f g → StatementsAccepted f g → (StandsFor (IsKnownAtEnd f) f.result g.result → ⊥) → site ≡ sites_of (tree_of g.body) → IsFirstTidyFault f g site
 
 abbrev pub IsTidiness : Function → Function → Tidiness → Type 0
 IsTidiness f g Yes = TidyAccepts f g
-IsTidiness f g (No site) = IsFirstRefusal f g site
+IsTidiness f g (No site) = IsFirstTidyFault f g site

@@ -22,3 +22,7 @@ TidinessIsOne = (f g : Function) (one other : Tidiness) → IsTidiness f g one �
 
 abbrev pub YesIsAccepted : Type 0
 YesIsAccepted = (f g : Function) (answer : Tidiness) → IsTidiness f g answer → (answer ≡ Yes) ↔ TidyAccepts f g
+
+-- it is yes of what a function is tidied to
+abbrev pub TidiedIsYes : Type 0
+TidiedIsYes = (f g : Function) (answer : Tidiness) → IsTidied f g → IsTidiness f g answer → answer ≡ Yes

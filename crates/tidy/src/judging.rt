@@ -4,7 +4,7 @@ ghost use Rattle.il_syntax.specs.Statements.{head_of, site_count};
 ghost use Rattle.il_paths.specs.Tree.{Tree, Empty, tree_of, before_rest, heads_in};
 ghost use Rattle.tidy.specs.Atoms.{update_with, with_atoms};
 ghost use Rattle.tidy.specs.Decided as decided;
-ghost use Rattle.tidy.specs.Decided.{IsFirstRefused};
+ghost use Rattle.tidy.specs.Decided.{IsFirstFailing};
 ghost use Rattle.tidy.specs.Judged.{IsTidiness};
 
 use crate::atoms::{are_equal, atoms_of};
@@ -397,7 +397,7 @@ fn first_refused(
     news: &[Stmt],
     count: u32,
 ) -> Result<Option<u32>, NoMemory>
-    ensures { IfOk result (IsFirstRefused (decided.accepted_in rows.now sets.now olds.now news.now) count) }
+    ensures { IfOk result (IsFirstFailing (decided.accepted_in rows.now sets.now olds.now news.now) count) }
 {
     for site in 0..count {
         if !accepted_at(alloc, rows, sets, olds, news, site)? {

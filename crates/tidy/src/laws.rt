@@ -1,6 +1,6 @@
 //! Laws of tidied functions, each the contract of a function that does nothing.
 ghost use Rattle.tidy.specs.Programs.{TidiedProgramsAreAccepted, TidiedProgramsFit};
-ghost use Rattle.tidy.specs.Laws.{TidiedIsAccepted, TidiedFits, TidinessIsOne, YesIsAccepted};
+ghost use Rattle.tidy.specs.Laws.{TidiedIsAccepted, TidiedFits, TidinessIsOne, YesIsAccepted, TidiedIsYes};
 
 /// A function accepts what it is tidied to.
 pub fn tidied_is_accepted()
@@ -35,4 +35,10 @@ pub fn tidiness_is_one()
 #[tactic(auto, using(crate::proofs::JudgeLaws::yes_is_accepted))]
 pub fn yes_is_accepted()
     ensures { YesIsAccepted }
+{}
+
+/// It is yes of what a function is tidied to.
+#[tactic(auto, using(crate::proofs::JudgeLaws::tidied_is_yes))]
+pub fn tidied_is_yes()
+    ensures { TidiedIsYes }
 {}

@@ -1,5 +1,5 @@
 use Rattle.std.proofs.Common.{◌+◌, ◌++◌, Bool, List, drop, sym, ap, ◌∙◌, append_assoc}
-use Rattle.il_paths.specs.Tree.{Tree, Empty, before_rest, tree_of, tree_of_all}
+use Rattle.il_paths.specs.Tree.{Tree, Empty, before_rest, tree_of_all}
 use Rattle.il_paths.proofs.Callers.{tree_of-block}
 use Rattle.path_meets.specs.Chain.{must_rank}
 use Rattle.path_meets.proofs.Callers.{exit_tree-drop, table_tree-drop}

@@ -3,10 +3,9 @@ use Rattle.il_syntax.specs.declared.statement.Atom.{Atom}
 use Rattle.il_syntax.specs.declared.statement.Atom.TheVariants.{Const, Reg}
 use Rattle.il_syntax.specs.declared.program.Function.{Function}
 use Rattle.il_paths.specs.Tree.{tree_of}
-use Rattle.tidy.specs.declared.known.KnownPair.{KnownPair}
 use Rattle.il_paths.specs.Atoms.{atoms_equal}
 use Rattle.tidy.specs.Known.{known_at_entry}
-use Rattle.tidy.specs.Rows.{known_in, known_column, exit_known, table_known}
+use Rattle.tidy.specs.Rows.{known_column, exit_known, table_known}
 use Rattle.tidy.proofs.KnownLaws.{rows_known, end_known}
 use Rattle.tidy.proofs.known.known_rows.Goals as goal
 
