@@ -1,8 +1,7 @@
 -- `graph` has one output for an input, it answers as `replay` does, and of a report it tells the graph of the run.
-use Rattle.std.proofs.Common.{◌≡◌, ◌∙◌, ◌⊎◌, ℕ, List, length, inl, inr, refl, sym, ap, subst}
+use Rattle.std.proofs.Common.{◌≡◌, ◌∙◌, ◌⊎◌, ℕ, List, length, inl, inr, refl, sym, subst}
 use Rattle.values_undef.specs.declared.journal.Entry.{Entry}
 use Rattle.values_undef.specs.declared.journal.Ending.{Ending}
-use Rattle.values_undef.specs.Journal.{ending_in}
 use Rattle.il_syntax.specs.declared.program.Program.{Program}
 use Rattle.il_parser.proofs.Callers.{spelled_well_formed}
 use Rattle.il_reader.specs.Refusal.{Refusal}
@@ -17,15 +16,13 @@ use Rattle.replay_text.specs.declared.fault.TextRule.{TextRule}
 use Rattle.replay_text.specs.Refusal.{text_rule_word}
 use Rattle.replay_text.specs.Reading.{ReadsReplay, IsFirstTextRefusal}
 use Rattle.replay_text.proofs.Callers.{each_input, one_replay, replay_unrefused}
-use Rattle.exec_graph.specs.declared.links.Link.{Link}
 use Rattle.exec_graph.specs.Calls.{calls_in}
-use Rattle.exec_graph.specs.Links.{AreReads, AreRaces}
 use Rattle.exec_graph.proofs.Callers.{one_reads, one_races, none_lacks_reads, none_lacks_races}
 use Rattle.graph_text.specs.GraphText.{graph_text}
 use Rattle.tool.specs.declared.status.Status.{Status}
 use Rattle.tool.specs.declared.status.Status.TheVariants as status
 use Rattle.tool.specs.Refusals.{refusal_line}
-use Rattle.tool.specs.Replay.{IsVerdictOutput, IsJudgement, IsReplayRefusal, IsReplayOutput, other_ending_line, no_entry_line}
+use Rattle.tool.specs.Replay.{IsVerdictOutput, IsJudgement, other_ending_line, no_entry_line}
 use Rattle.tool.specs.Graph.{IsGraphOf, IsGraphedVerdict, IsGraphing, IsGraphOutput}
 use Rattle.tool.specs.Laws.{GraphsHaveOneOutput, NoInputLacksAGraph, GraphsAnswerAsReplay, AnswersAsReplay, ReportsAreGraphed}
 use Rattle.tool.proofs.OneOutput.{SameOutput, same_ending, replay_refused_once}
