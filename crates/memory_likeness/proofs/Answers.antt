@@ -18,7 +18,7 @@ use Rattle.message_memory.specs.declared.message.Message.{Message as TheMessage}
 use Rattle.message_memory.specs.Memory.{Memory, Messages, messages, message_at, overlaps, is_free, view_index, last_to, first_message, IsDisjointAndSorted}
 use Rattle.message_memory.specs.Step.{AdmitsChoice, read_at, timestamp_in, succeeds}
 use Rattle.message_memory.proofs.Callers.{some_from_and}
-use Rattle.memory_likeness.specs.Likeness.{Pairs, PairsAt, AreViewsAlike, AreMessagesAlike, AreMemoriesAlike, AreSorted}
+use Rattle.memory_likeness.specs.Likeness.{Pairs, PairsAt, AreViewsAlike, AreMessagesAlike, AreMemoriesAlike, AreBothSorted}
 use Rattle.memory_likeness.specs.Answering.{IsAnswered, IsFollowed, AccessesAreFollowed, made_room, view_with_room, choice_behind}
 use Rattle.memory_likeness.specs.Moved.{moved, moved_view, opened, retimed, restamped}
 use Rattle.memory_likeness.proofs.Pairing.{OnOneSide, find_there, pair_found, in_order, pairs_rise, pair_of, second_below, sorted_second}
@@ -113,7 +113,7 @@ besides s t y a b from to m l p last free =
     R : TheMessage → TheMessage → Type 0
     R c d = AreMessagesAlike s t y c d
 
-    o : AreSorted s t
+    o : AreBothSorted s t
     o = m.sorted
 
     z : AllZip (AreMessagesAlike s t y) (messages s y) (messages t y)

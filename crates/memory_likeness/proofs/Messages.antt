@@ -15,7 +15,7 @@ use Rattle.message_memory.specs.declared.message.Message.{Message as TheMessage}
 use Rattle.message_memory.specs.Memory.{Memory, Messages, messages, inserted, is_free, view_index, with_message, IsDisjointAndSorted}
 use Rattle.message_memory.specs.Step.{AdmitsChoice, read_at, view_after_read, write_message, update_message, updated}
 use Rattle.memory_likeness.proofs.Inserting.{sorted_inserted}
-use Rattle.memory_likeness.specs.Likeness.{Pairs, PairsAt, AreTimesAlike, AreViewsAlike, AreMessagesAlike, AreMemoriesAlike, AreSorted}
+use Rattle.memory_likeness.specs.Likeness.{Pairs, PairsAt, AreTimesAlike, AreViewsAlike, AreMessagesAlike, AreMemoriesAlike, AreBothSorted}
 use Rattle.memory_likeness.specs.Answering.{IsAnswered}
 use Rattle.memory_likeness.proofs.Pairing.{OnOneSide, zip_inserted, pairs_kept, pairs_new, pairs_back, pairs_first}
 use Rattle.memory_likeness.proofs.Times.{place_same, times_joined, views_raised, views_heard, times_handed_on}
@@ -50,7 +50,7 @@ pub record IsPlaced (s t : Memory) (y : ℕ) (u v : TheMessage) : Type 0 where
   pub first_free : is_free u.from u.to (messages s y) ≡ true
   pub second_free : is_free v.from v.to (messages t y) ≡ true
 
-module _ (s t : Memory) (y : ℕ) (u v : TheMessage) (o : AreSorted s t) (m : AreMemoriesAlike s t) (q : IsPlaced s t y u v) where
+module _ (s t : Memory) (y : ℕ) (u v : TheMessage) (o : AreBothSorted s t) (m : AreMemoriesAlike s t) (q : IsPlaced s t y u v) where
   abbrev pub s' : Memory
   s' = with_message s y u
 
@@ -106,7 +106,7 @@ module _ (s t : Memory) (y : ℕ) (u v : TheMessage) (o : AreSorted s t) (m : Ar
   pub views_grow : (a b : ThreadView) → AreViewsAlike s t a b → AreViewsAlike s' t' a b
   views_grow a b r = views_more s t s' t' a b refl many (λ z c d _. pairs_grow z c d) r
 
-  pub sorted_grow : AreSorted s' t'
+  pub sorted_grow : AreBothSorted s' t'
   sorted_grow = record {
     atomic = length-set t.atomic y (inserted v (messages t y)) ∙ o.atomic ∙ sym many;
     first = λ z l. ⊎_elim
@@ -144,7 +144,7 @@ module _ (s t : Memory) (y : ℕ) (u v : TheMessage) (o : AreSorted s t) (m : Ar
 
 -- ---- a write
 
-pub write_answered : (s t : Memory) (v w : ThreadView) (i y : ℕ) (order : Order) (n : Val) (from to from' to' : ℕ) → AreSorted s t → AreMemoriesAlike s t → AreViewsAlike s t v w → s.failed ≡ false → y < length s.atomic
+pub write_answered : (s t : Memory) (v w : ThreadView) (i y : ℕ) (order : Order) (n : Val) (from to from' to' : ℕ) → AreBothSorted s t → AreMemoriesAlike s t → AreViewsAlike s t v w → s.failed ≡ false → y < length s.atomic
     → AdmitsChoice s v (Write y order n) (Place from to) → AdmitsChoice t w (Write y order n) (Place from' to')
     → AllZip (OnOneSide to to') (messages s y) (messages t y) → NoneBegins to' (messages t y) → NoneEnds from' (messages t y)
     → IsAnswered s t v w i (Write y order n) (Place from to) (Place from' to')
@@ -174,7 +174,7 @@ write_answered s t v w i y order n from to from' to' o m r e l h k side apart no
     more : y < length s'.atomic
     more = omega (arith, length-set s.atomic y (inserted one (messages s y)))
 
-    sorted : AreSorted s' t'
+    sorted : AreBothSorted s' t'
     sorted = sorted_grow s t y one two o m placed
 
     after : AreViewsAlike s' t' (raised_view v (view_index s y) to) (raised_view w (view_index t y) to')
@@ -193,7 +193,7 @@ write_answered s t v w i y order n from to from' to' o m r e l h k side apart no
 
 -- ---- an update that succeeds
 
-pub take_answered : (s t : Memory) (v w : ThreadView) (i y : ℕ) (order : Order) (kind : UpdateKind) (read to read' to' : ℕ) → AreSorted s t → AreMemoriesAlike s t → AreViewsAlike s t v w → s.failed ≡ false → y < length s.atomic
+pub take_answered : (s t : Memory) (v w : ThreadView) (i y : ℕ) (order : Order) (kind : UpdateKind) (read to read' to' : ℕ) → AreBothSorted s t → AreMemoriesAlike s t → AreViewsAlike s t v w → s.failed ≡ false → y < length s.atomic
     → AdmitsChoice s v (Update y order kind) (Take read to) → AdmitsChoice t w (Update y order kind) (Take read' to') → IsRead s t v w y read read'
     → AllZip (OnOneSide to to') (messages s y) (messages t y) → NoneBegins to' (messages t y)
     → IsAnswered s t v w i (Update y order kind) (Take read to) (Take read' to')
@@ -229,7 +229,7 @@ take_answered s t v w i y order kind read to read' to' o m r e l h k found side 
     more : y < length s'.atomic
     more = omega (arith, length-set s.atomic y (inserted one (messages s y)))
 
-    sorted : AreSorted s' t'
+    sorted : AreBothSorted s' t'
     sorted = sorted_grow s t y one two o m placed
 
     told : AreTimesAlike s' t' old.times old'.times

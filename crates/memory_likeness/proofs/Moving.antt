@@ -6,7 +6,7 @@ use Rattle.std.specs.List.{AllZip}
 use Rattle.views.specs.ThreadView.{ThreadView}
 use Rattle.message_memory.specs.declared.message.Message.{Message as TheMessage}
 use Rattle.message_memory.specs.Memory.{Memory, Messages, messages, view_index, IsDisjointAndSorted}
-use Rattle.memory_likeness.specs.Likeness.{Pairs, PairsAt, AreTimesAlike, AreViewsAlike, AreMessagesAlike, AreMemoriesAlike, AreSorted}
+use Rattle.memory_likeness.specs.Likeness.{Pairs, PairsAt, AreTimesAlike, AreViewsAlike, AreMessagesAlike, AreMemoriesAlike, AreBothSorted}
 use Rattle.memory_likeness.specs.Moved.{IsRisingMap, moved_times, moved_view, retimed, restamped, moved, opened}
 use Rattle.memory_likeness.proofs.Times.{place_same}
 
@@ -61,7 +61,7 @@ same_number n = n
 
 -- ---- the memory
 
-module _ (s t : Memory) (y : ℕ) (g : ℕ → ℕ) (r : IsRisingMap g) (o : AreSorted s t) (m : AreMemoriesAlike s t) (l : y < length s.atomic) where
+module _ (s t : Memory) (y : ℕ) (g : ℕ → ℕ) (r : IsRisingMap g) (o : AreBothSorted s t) (m : AreMemoriesAlike s t) (l : y < length s.atomic) where
   abbrev pub t' : Memory
   t' = moved t y g
 
@@ -140,7 +140,7 @@ module _ (s t : Memory) (y : ℕ) (g : ℕ → ℕ) (r : IsRisingMap g) (o : Are
     attached = λ a b p e. q.attached a b (pairs_back_there z a b h f p) e;
   }
 
-  pub sorted_moved : AreSorted s t'
+  pub sorted_moved : AreBothSorted s t'
   sorted_moved = record {
     atomic = many ∙ o.atomic;
     first = o.first;

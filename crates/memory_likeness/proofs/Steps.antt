@@ -20,7 +20,7 @@ use Rattle.message_memory.specs.declared.message.Message.{Message as TheMessage}
 use Rattle.message_memory.specs.declared.message.Versioned.{Versioned}
 use Rattle.message_memory.specs.Memory.{Memory, Messages, messages, message_at, location_in, view_index, first_message, absent_location, IsDisjointAndSorted}
 use Rattle.message_memory.specs.Step.{is_racy, read_value, read_at, timestamp_in, view_after_read, meets_undef, succeeds}
-use Rattle.memory_likeness.specs.Likeness.{Pairs, PairsAt, AreTimesAlike, AreViewsAlike, AreMessagesAlike, AreMemoriesAlike, AreSorted}
+use Rattle.memory_likeness.specs.Likeness.{Pairs, PairsAt, AreTimesAlike, AreViewsAlike, AreMessagesAlike, AreMemoriesAlike, AreBothSorted}
 use Rattle.memory_likeness.specs.Answering.{StayAlike, AreResultsAlike, IsAnswered}
 use Rattle.memory_likeness.proofs.Pairing.{cond_related, pairs_rise, pair_of, pair_found}
 use Rattle.memory_likeness.proofs.Times.{place_same, views_raised, views_heard, views_fenced}
@@ -73,7 +73,7 @@ histories_kept s t s' t' e f g m y l =
       attached = λ a b p. r.attached a b (back y a b p);
     }
 
-pub sorted_kept : (s t s' t' : Memory) → s'.atomic ≡ s.atomic → t'.atomic ≡ t.atomic → AreSorted s t → AreSorted s' t'
+pub sorted_kept : (s t s' t' : Memory) → s'.atomic ≡ s.atomic → t'.atomic ≡ t.atomic → AreBothSorted s t → AreBothSorted s' t'
 sorted_kept s t s' t' f g o = record {
   atomic = ap length g ∙ o.atomic ∙ sym (ap length f);
   first = λ y l. subst (λ (h : List Messages). IsDisjointAndSorted (get_or h y [])) (sym f) (o.first y (omega (arith, ap {B = ℕ} length f)));
@@ -243,13 +243,13 @@ read_of s t v w y a m r l h f =
     let p = pair_of (AreMessagesAlike s t y) (messages s y) (messages t y) a (m.histories y l) f in
     (p.0, read_at_pair s t v w y a p.0 m r l h p.1)
 
-pub views_after_read : (s t : Memory) (v w : ThreadView) (y : ℕ) (order : Order) (a b : ℕ) (old old' : TheMessage) → AreSorted s t → AreMemoriesAlike s t → AreViewsAlike s t v w → y < length s.atomic → PairsAt s t y a b → AreTimesAlike s t old.times old'.times
+pub views_after_read : (s t : Memory) (v w : ThreadView) (y : ℕ) (order : Order) (a b : ℕ) (old old' : TheMessage) → AreBothSorted s t → AreMemoriesAlike s t → AreViewsAlike s t v w → y < length s.atomic → PairsAt s t y a b → AreTimesAlike s t old.times old'.times
     → AreViewsAlike s t (view_after_read s v y order a old) (view_after_read t w y order b old')
 views_after_read s t v w y order a b old old' o m r l p q =
     subst (λ (k : ℕ). AreViewsAlike s t (view_after_read s v y order a old) (heard (raised_view w k b) old'.times (acquires order))) (sym (place_same s t y m.na))
     (views_heard s t (raised_view v (view_index s y) a) (raised_view w (view_index s y) b) old.times old'.times order o q (views_raised s t v w y a b o l p r))
 
-pub read_answered : (s t : Memory) (v w : ThreadView) (i y : ℕ) (order : Order) (a b : ℕ) → AreSorted s t → AreMemoriesAlike s t → AreViewsAlike s t v w → s.failed ≡ false → y < length s.atomic → IsRead s t v w y a b
+pub read_answered : (s t : Memory) (v w : ThreadView) (i y : ℕ) (order : Order) (a b : ℕ) → AreBothSorted s t → AreMemoriesAlike s t → AreViewsAlike s t v w → s.failed ≡ false → y < length s.atomic → IsRead s t v w y a b
     → IsAnswered s t v w i (Read y order) (Message a) (Message b)
 read_answered s t v w i y order a b o m r e l q = record {
   legal = record { running = plain_legal s t m e; admits = (q.seen, q.there) };
@@ -268,7 +268,7 @@ and_some None P d s = absurd s
 and_some (Some x) P d s = s
 
 -- an update that doesn't succeed on the message
-pub miss_answered : (s t : Memory) (v w : ThreadView) (i y : ℕ) (order : Order) (kind : UpdateKind) (a b : ℕ) → AreSorted s t → AreMemoriesAlike s t → AreViewsAlike s t v w → s.failed ≡ false → y < length s.atomic → IsRead s t v w y a b
+pub miss_answered : (s t : Memory) (v w : ThreadView) (i y : ℕ) (order : Order) (kind : UpdateKind) (a b : ℕ) → AreBothSorted s t → AreMemoriesAlike s t → AreViewsAlike s t v w → s.failed ≡ false → y < length s.atomic → IsRead s t v w y a b
     → succeeds kind (read_at s y a).value ≡ false → IsAnswered s t v w i (Update y order kind) (Message a) (Message b)
 miss_answered s t v w i y order kind a b o m r e l q fails = record {
   legal = record {
