@@ -1,27 +1,24 @@
 -- A list of moves that grows.
-use Rattle.std.proofs.Common.{◌≡◌, ◌⊎◌, inl, inr, ⊎_elim, ℕ, ◌+◌, ◌<◌, ◌≤◌, Bool, true, false, List, [], ◌∷◌, ◌++◌, length, get_or, take, Option, None, Some, Result, Ok, Err, OnOk, refl, sym, ap, ◌∙◌, subst, arith}
+use Rattle.std.proofs.Common.{◌≡◌, ◌⊎◌, inl, inr, ⊎_elim, ℕ, ◌+◌, ◌<◌, ◌≤◌, true, false, List, [], ◌∷◌, ◌++◌, length, get_or, take, Option, None, Some, Result, Ok, Err, OnOk, refl, sym, ap, ◌∙◌, subst, arith}
 use Rattle.std.specs.Prelude.{IsSome}
-use Rattle.std.specs.List.{Contains, AllByRecursion}
-use Rattle.std.proofs.lemmas.Bool.{true≢false, false≢true, cases_Bool}
+use Rattle.std.specs.List.{Contains}
+use Rattle.std.proofs.lemmas.Bool.{true≢false}
 use Rattle.std.proofs.lemmas.List.{append-nil, append_assoc, take_more, take_all}
 use Rattle.std.proofs.lemmas.List.Elements.{Contains-append_left, Contains-append_right}
 use Rattle.values_undef.specs.Access.{leaves_choice}
 use Rattle.values_undef.specs.declared.access.Access.{Access}
 use Rattle.values_undef.specs.declared.access.Access.TheVariants.{NaRead, NaWrite, Read, Write, Update, Fence, Print, Fail, Finish, Spend}
-use Rattle.values_undef.specs.declared.access.Event.{Event}
 use Rattle.values_undef.specs.declared.journal.Entry.{Entry}
 use Rattle.values_undef.proofs.Callers.{all_append}
 use Rattle.il_syntax.specs.declared.program.Program.{Program}
 use Rattle.message_memory.specs.Memory.{Memory, messages, message_at}
 use Rattle.message_memory.specs.Candidates.{location_of}
 use Rattle.message_memory.specs.Step.{IsLegal, StepResult}
-use Rattle.thread_core.specs.declared.next.Next.{Next}
-use Rattle.thread_core.specs.declared.next.Next.TheVariants as next
 use Rattle.memory_likeness.specs.Answering.{made_room, view_with_room, choice_behind}
 use Rattle.outcome_nodes.specs.Nodes.{Node, view_at, Asks, IsMove, result_at, after_move, IsFinished, IsSpent}
 use Rattle.outcome_nodes.specs.Standing.{node_of, IsNodeRun, GoesOnBy, FailsBy}
 use Rattle.outcome_moves.specs.Ends.{end_in, HasEnd}
-use Rattle.outcome_moves.specs.Moves.{last_state, IsMoved, IsSmallMove, HasMove, HasMovesOf, IsSomeMove, GrowsBy}
+use Rattle.outcome_moves.specs.Moves.{IsMoved, IsSmallMove, HasMove, HasMovesOf, IsSomeMove, GrowsBy}
 use Rattle.outcome_moves.specs.declared.moves.Move.{Move}
 use Rattle.outcome_moves.proofs.Playing.{same_access}
 use Rattle.outcome_moves.proofs.Ends.{ends_found}

@@ -1,5 +1,5 @@
 -- An access that is tried where a run ends.
-use Rattle.std.proofs.Common.{◌≡◌, ◌⊎◌, inl, inr, ⊎_elim, ℕ, ◌+◌, ◌-◌, ◌<◌, ◌≤◌, Bool, true, false, cond, eqb, ◌&&◌, List, [], ◌∷◌, ◌++◌, length, map, get_or, None, refl, sym, ap, ◌∙◌, subst, arith}
+use Rattle.std.proofs.Common.{◌≡◌, ◌⊎◌, inl, inr, ⊎_elim, ℕ, ◌-◌, ◌<◌, ◌≤◌, Bool, true, false, cond, eqb, ◌&&◌, List, [], ◌∷◌, ◌++◌, length, map, get_or, None, refl, sym, ap, ◌∙◌, subst, arith}
 use Rattle.std.specs.Prelude.{◌||◌, IsSome}
 use Rattle.std.specs.List.{AllByRecursion}
 use Rattle.std.proofs.lemmas.Bool.{cases_Bool, cond-true, cond-false, cond_both, eq-eqb, true≢false, false≢true}
@@ -15,7 +15,7 @@ use Rattle.il_syntax.specs.declared.program.Program.{Program}
 use Rattle.views.specs.ThreadView.{ThreadView, no_view}
 use Rattle.message_memory.specs.Memory.{Memory, messages, message_at}
 use Rattle.message_memory.specs.Candidates.{location_of}
-use Rattle.message_memory.specs.Step.{IsLegal, IsProper, StepResult, step_result}
+use Rattle.message_memory.specs.Step.{IsLegal, IsProper, step_result}
 use Rattle.thread_core.specs.declared.next.Next.{Next}
 use Rattle.thread_core.specs.declared.next.Next.TheVariants as next
 use Rattle.thread_core.specs.Programs.{IsProperProgram, IsProperAccess}
@@ -23,13 +23,13 @@ use Rattle.thread_core.specs.Frames.{Stack, next_of}
 use Rattle.thread_core.specs.Alone.{HasSilent, local_after_silent}
 use Rattle.view_machine.specs.declared.stepped.Stepped.{Stepped}
 use Rattle.view_machine.specs.declared.stepped.Stepped.TheVariants as stepped
-use Rattle.view_machine.specs.State.{State, StepTaken, local_in, view_in, has_ended, next_in, idle, IsRunning, step_by, after_step}
+use Rattle.view_machine.specs.State.{State, StepTaken, local_in, view_in, next_in, idle, IsRunning, step_by, after_step}
 use Rattle.view_machine.specs.Runs.{after_silent, AreSilent}
 use Rattle.view_machine.specs.Laws.{IsReached}
 use Rattle.view_machine.proofs.Callers.{proper_in, states_whole, silent_steps_local}
 use Rattle.run_choices.specs.Complete.{has_spent}
 use Rattle.memory_likeness.specs.Moved.{opened, moved}
-use Rattle.memory_likeness.specs.Answering.{puts_in, made_room, choice_behind}
+use Rattle.memory_likeness.specs.Answering.{puts_in, choice_behind}
 use Rattle.outcome_nodes.specs.Moved.{moved_entry}
 use Rattle.outcome_nodes.specs.Nodes.{Node, Asks, IsMove}
 use Rattle.outcome_nodes.specs.Standing.{node_of, IsNodeRun, GoesOnBy, FailsBy}

@@ -1,8 +1,7 @@
 -- An entry of a run, made again.
 use Rattle.std.proofs.Common.{◌≡◌, ⊎_elim, ℕ, zero, suc, ◌+◌, ◌<◌, ◌≤◌, Bool, true, false, ltb, List, [], ◌∷◌, ◌++◌, length, get_or, take, drop, refl, sym, ap, ◌∙◌, subst, arith}
-use Rattle.std.specs.List.{AllByRecursion}
 use Rattle.std.proofs.lemmas.Bool.{cases_Bool, true≢false, ltb-true, ltb-false}
-use Rattle.std.proofs.lemmas.List.{get_or-set_same, take_more, take-append-drop}
+use Rattle.std.proofs.lemmas.List.{get_or-set_same, take_more}
 use Rattle.values_undef.specs.Access.{choice_of_event, is_spend}
 use Rattle.values_undef.specs.declared.access.Access.{Access}
 use Rattle.values_undef.specs.declared.access.Access.TheVariants as access
@@ -18,12 +17,10 @@ use Rattle.thread_core.specs.declared.next.Next.{Next}
 use Rattle.thread_core.specs.declared.next.Next.TheVariants as next
 use Rattle.thread_core.specs.Frames.{Stack, next_of}
 use Rattle.thread_core.specs.Alone.{local_after_silent}
-use Rattle.thread_core.specs.Programs.{IsProperProgram}
 use Rattle.view_machine.specs.declared.stepped.Stepped.TheVariants as stepped
-use Rattle.view_machine.specs.State.{State, StepTaken, local_in, with_local, view_in, next_in, idle, after_step, initial_state}
-use Rattle.view_machine.specs.Runs.{after_silent, AreSilent, after_event_by, IsEntry, after_entry, IsRunFrom, IsJournalRun, IsRunTo, state_after}
-use Rattle.view_machine.specs.Held.{HasRoom}
-use Rattle.view_machine.proofs.Callers.{silent_steps_local, runs_cut, run_goes_on, runs_have_room}
+use Rattle.view_machine.specs.State.{State, StepTaken, local_in, view_in, next_in, idle, after_step, initial_state}
+use Rattle.view_machine.specs.Runs.{after_silent, AreSilent, after_event_by, IsEntry, after_entry, IsJournalRun, IsRunTo}
+use Rattle.view_machine.proofs.Callers.{silent_steps_local, runs_cut, run_goes_on}
 use Rattle.outcome_nodes.proofs.Callers.{Spends, Makes, EntryDone, entry_done}
 
 abbrev access_of : Next → Access

@@ -1,18 +1,17 @@
 -- Timestamps stay small.
-use Rattle.std.proofs.Common.{◌≡◌, ℕ, zero, suc, ◌+◌, ◌<◌, ◌≤◌, max, Bool, true, false, cond, nat_lt, eqb, List, [], ◌∷◌, ◌++◌, length, get_or, map, Option, None, Some, refl, sym, ap, ◌∙◌, subst, arith}
-use Rattle.std.specs.List.{AllByRecursion}
+use Rattle.std.proofs.Common.{◌≡◌, ℕ, zero, suc, ◌+◌, ◌<◌, ◌≤◌, Bool, true, false, cond, nat_lt, eqb, List, [], ◌∷◌, ◌++◌, length, get_or, map, Option, None, Some, sym, ap, subst, arith}
 use Rattle.std.proofs.lemmas.Bool.{cond_both, false≢true}
 use Rattle.values_undef.specs.declared.access.Access.{Access}
 use Rattle.values_undef.specs.declared.access.Access.TheVariants as access
 use Rattle.values_undef.specs.declared.access.Choice.{Choice}
-use Rattle.values_undef.specs.declared.access.Choice.TheVariants.{Plain, Message, Place, Take}
+use Rattle.values_undef.specs.declared.access.Choice.TheVariants.{Message, Take}
 use Rattle.values_undef.specs.declared.access.Event.{Event}
 use Rattle.values_undef.specs.declared.access.Event.TheVariants.{NaRead, NaWrite, Read, Write, Update, Miss, Fence, Print, Fail, FailCompare, Finish, Spend}
 use Rattle.values_undef.specs.declared.journal.Entry.{Entry}
 use Rattle.values_undef.proofs.Callers.{all_append}
 use Rattle.views.specs.ThreadView.{ThreadView}
 use Rattle.message_memory.specs.Memory.{Memory}
-use Rattle.message_memory.specs.Step.{StepResult, step_result, AdmitsChoice, is_racy, meets_undef, succeeds, read_at}
+use Rattle.message_memory.specs.Step.{StepResult, step_result, is_racy, meets_undef, succeeds, read_at}
 use Rattle.memory_likeness.specs.Moved.{opened, moved_stamp, moved_event}
 use Rattle.memory_likeness.specs.Answering.{choice_behind}
 use Rattle.outcome_nodes.specs.Moved.{moved_entry}

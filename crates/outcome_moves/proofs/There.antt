@@ -1,6 +1,5 @@
 -- What a thread does where a run ends, as the machine tells it.
 use Rattle.std.proofs.Common.{◌≡◌, ◌⊎◌, inl, inr, ⊎_elim, ℕ, ◌+◌, ◌-◌, ◌<◌, ◌≤◌, Bool, true, false, ltb, List, length, refl, sym, ap, ◌∙◌, subst, arith}
-use Rattle.std.specs.List.{AllByRecursion}
 use Rattle.std.proofs.lemmas.List.{get_or-set_same}
 use Rattle.values_undef.specs.Journal.{used_steps}
 use Rattle.values_undef.specs.declared.access.Access.{Access}
@@ -16,7 +15,7 @@ use Rattle.view_machine.specs.State.{State, local_in, next_in, idle, IsRunning}
 use Rattle.view_machine.specs.Runs.{after_silent, AreSilent}
 use Rattle.view_machine.specs.Laws.{IsReached}
 use Rattle.view_machine.proofs.Callers.{silent_steps_local, states_whole}
-use Rattle.outcome_nodes.specs.Nodes.{local_of, used_of, is_silent, Asks, IsFinished, IsSpent}
+use Rattle.outcome_nodes.specs.Nodes.{local_of, used_of, is_silent}
 use Rattle.outcome_nodes.specs.Standing.{node_of, IsNodeRun}
 use Rattle.outcome_nodes.proofs.Callers.{silent_has, steps_are}
 use Rattle.outcome_moves.proofs.Playing.{same_access}

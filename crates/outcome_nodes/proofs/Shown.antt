@@ -1,8 +1,8 @@
 -- A closed list of nodes that moves lead to shows exactly the outcomes of the program.
-use Rattle.std.proofs.Common.{◌≡◌, ◌⊎◌, inl, inr, ⊎_elim, ℕ, ℤ, zero, suc, ◌+◌, ◌<◌, ◌≤◌, Bool, true, false, cond, List, [], ◌∷◌, length, map, get_or, refl, sym, ap, ◌∙◌, subst, arith}
+use Rattle.std.proofs.Common.{◌≡◌, ◌⊎◌, inl, inr, ⊎_elim, ℕ, ℤ, zero, suc, ◌+◌, ◌<◌, ◌≤◌, Bool, true, false, cond, List, [], length, map, get_or, refl, sym, ap, ◌∙◌, subst, arith}
 use Rattle.std.specs.Prelude.{◌&&◌}
 use Rattle.std.specs.List.{Contains, list_all, range_with_len}
-use Rattle.std.proofs.lemmas.Bool.{cases_Bool, false≢true, true≢false, cond-true, cond-false}
+use Rattle.std.proofs.lemmas.Bool.{cases_Bool, true≢false, cond-true, cond-false}
 use Rattle.std.proofs.lemmas.List.Folds.{list_all_at}
 use Rattle.std.proofs.lemmas.List.FromFn.{length-range_with_len, get_or-range_with_len, fill_by_all}
 use Rattle.values_undef.specs.declared.value.Val.{Val}
@@ -16,9 +16,9 @@ use Rattle.thread_core.specs.Programs.{IsProperProgram}
 use Rattle.view_machine.specs.State.{initial_state}
 use Rattle.view_machine.specs.Runs.{IsJournalRun, state_after}
 use Rattle.run_choices.specs.Complete.{IsComplete}
-use Rattle.outcome_nodes.specs.Nodes.{Node, printed_of, IsFinished, IsSpent, printed_by, HasPrinted}
+use Rattle.outcome_nodes.specs.Nodes.{Node, IsFinished, IsSpent, printed_by, HasPrinted}
 use Rattle.outcome_nodes.specs.Laws.{IsClosedUnderMoves, FailsFrom, EndsIn}
-use Rattle.outcome_nodes.specs.Reached.{IsReachable, IsFailedRun, IsEndedRun}
+use Rattle.outcome_nodes.specs.Reached.{IsReachable, IsEndedRun}
 use Rattle.outcome_nodes.specs.Outcome.{FinalOutcome, final_values, values_told, final_outcome_of, IsOutcome, Fails, EndsAs, Ends, failed_outcome, ended_outcome, IsShown, ShownAreOutcomes}
 use Rattle.outcome_nodes.proofs.Missing.{nothing_missed}
 use Rattle.outcome_nodes.proofs.Reaching.{nodes_of_runs, failures_of_runs}

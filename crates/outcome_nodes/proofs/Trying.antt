@@ -1,5 +1,5 @@
 -- What a search that keeps runs needs: the node of a run, and what comes of an access after room was made.
-use Rattle.std.proofs.Common.{◌≡◌, ℕ, ℤ, zero, suc, ◌+◌, ◌-◌, ◌<◌, ◌≤◌, true, false, cond, Bool, List, [], ◌∷◌, ◌++◌, length, map, refl, sym, ap, ◌∙◌, subst, arith}
+use Rattle.std.proofs.Common.{◌≡◌, ℕ, ℤ, zero, suc, ◌-◌, ◌<◌, ◌≤◌, true, false, cond, List, [], ◌∷◌, ◌++◌, length, map, refl, sym, ap, ◌∙◌, subst, arith}
 use Rattle.std.specs.Prelude.{IsSome}
 use Rattle.std.specs.List.{range_with_len}
 use Rattle.std.proofs.lemmas.Bool.{cond-true}
@@ -15,7 +15,7 @@ use Rattle.values_undef.specs.declared.journal.Entry.{Entry}
 use Rattle.il_syntax.specs.declared.program.Program.{Program}
 use Rattle.views.specs.ThreadView.{ThreadView}
 use Rattle.message_memory.specs.Memory.{Memory, messages, message_at}
-use Rattle.message_memory.specs.Step.{AdmitsChoice, IsLegal, step_result}
+use Rattle.message_memory.specs.Step.{AdmitsChoice, IsLegal}
 use Rattle.message_memory.specs.Candidates.{location_of}
 use Rattle.thread_core.specs.declared.next.Next.TheVariants as next
 use Rattle.thread_core.specs.declared.next.Next.{Next}
@@ -23,9 +23,9 @@ use Rattle.thread_core.specs.Programs.{IsProperProgram}
 use Rattle.thread_core.specs.Frames.{Stack, next_of, advanced}
 use Rattle.thread_core.specs.Alone.{HasSilent, local_after_silent}
 use Rattle.view_machine.specs.State.{State, local_in, view_in, initial_state}
-use Rattle.view_machine.specs.Runs.{IsRunTo, state_after}
-use Rattle.memory_likeness.specs.Answering.{made_room, view_with_room, choice_behind}
-use Rattle.outcome_nodes.specs.Nodes.{Node, view_at, is_silent, silent_steps, settled, settled_use, printed_by, told_by, Asks, IsMove, result_at, after_move}
+use Rattle.view_machine.specs.Runs.{state_after}
+use Rattle.memory_likeness.specs.Answering.{view_with_room, choice_behind}
+use Rattle.outcome_nodes.specs.Nodes.{Node, view_at, is_silent, silent_steps, settled, settled_use, printed_by, told_by, Asks, IsMove, result_at}
 use Rattle.outcome_nodes.specs.Reached.{IsReachable, begins, moves, IsRunOf}
 use Rattle.outcome_nodes.specs.Standing.{node_at, node_of, IsNodeRun, RunsHaveOneNode, GoesOnBy, FailsBy}
 use Rattle.outcome_nodes.proofs.Rooms.{silenced, IsPrepared}

@@ -1,4 +1,4 @@
-use Rattle.std.proofs.Common.{◌≡◌, ◌^◌, ℕ, Some, sym, ◌∙◌, subst}
+use Rattle.std.proofs.Common.{◌≡◌, ◌^◌, sym, ◌∙◌, subst}
 use Rattle.outcome_nodes.specs.Nodes.{IsMove}
 use Rattle.outcome_nodes.specs.Standing.{node_of}
 use Rattle.outcome_moves.specs.Moves.{HasMove}

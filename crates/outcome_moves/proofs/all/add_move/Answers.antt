@@ -1,4 +1,4 @@
-use Rattle.std.proofs.Common.{rules, ◌≡◌, Option, Some, refl, sym, ap, ◌∙◌, subst}
+use Rattle.std.proofs.Common.{rules, Some}
 use Rattle.outcome_nodes.specs.Standing.{node_of}
 use Rattle.outcome_moves.specs.Moves.{IsTried, HasSmallMove}
 use Rattle.outcome_moves.proofs.Growing.{grows_one, has_last}

@@ -1,4 +1,4 @@
-use Rattle.std.proofs.Common.{rules, ◌≡◌, ◌⊎◌, ⊎_elim, ℕ, Some, take, get_or, length, sym, subst, arith}
+use Rattle.std.proofs.Common.{rules, ◌≡◌, ⊎_elim, ℕ, Some, take, get_or, subst, arith}
 use Rattle.std.specs.Prelude.{true}
 use Rattle.values_undef.specs.Access.{leaves_choice}
 use Rattle.outcome_nodes.specs.Nodes.{Asks, IsMove}

@@ -1,7 +1,6 @@
-use Rattle.std.proofs.Common.{◌≡◌, ℕ, take}
+use Rattle.std.proofs.Common.{ℕ, take}
 use Rattle.outcome_nodes.specs.Nodes.{IsMove}
 use Rattle.outcome_nodes.specs.Standing.{node_of}
-use Rattle.message_memory.specs.Candidates.{location_of}
 use Rattle.outcome_moves.specs.Ends.{HasEnd}
 use Rattle.outcome_moves.specs.Moves.{HasMove, GrowsBy}
 use Rattle.outcome_moves.proofs.all.add_moves.Given as goal

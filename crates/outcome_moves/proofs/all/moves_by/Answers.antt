@@ -1,4 +1,4 @@
-use Rattle.std.proofs.Common.{◌≡◌, ⊎_elim, ◌+◌, ◌<◌, ◌≤◌, ℕ, [], sym, subst, arith}
+use Rattle.std.proofs.Common.{◌≡◌, ⊎_elim, [], sym, subst, arith}
 use Rattle.std.specs.List.{AllByRecursion}
 use Rattle.std.proofs.lemmas.Bool.{cases_eq}
 use Rattle.outcome_nodes.specs.Standing.{node_of}

@@ -1,4 +1,4 @@
-use Rattle.std.proofs.Common.{◌≡◌, ◌<◌, ℕ, []}
+use Rattle.std.proofs.Common.{◌<◌, ℕ, []}
 use Rattle.outcome_nodes.specs.Standing.{node_of}
 use Rattle.outcome_moves.specs.Moves.{HasMovesOf, GrowsBy}
 use Rattle.outcome_moves.proofs.all.moves_by.Given as goal

@@ -1,6 +1,4 @@
 use Rattle.std.proofs.Common.{refl, sym, ap, ◌∙◌, subst, arith}
-use Rattle.message_memory.specs.Memory.{Memory}
-use Rattle.views.specs.ThreadView.{ThreadView}
 use Rattle.view_machine.specs.State.{State}
 use Rattle.view_machine.specs.Held.{state_in, HasRoom}
 use Rattle.view_machine.proofs.Callers.{runs_have_room}

@@ -1,4 +1,4 @@
-use Rattle.std.proofs.Common.{rules, ◌≡◌, ℕ, ◌+◌, ◌≤◌, true, Bool, Option, None, Some, cond, List, [], ◌∷◌, ◌++◌, length, map, refl, sym, ap, ◌∙◌, subst, arith}
+use Rattle.std.proofs.Common.{rules, ◌≡◌, ℕ, ◌+◌, ◌≤◌, true, cond, List, [], ◌∷◌, ◌++◌, length, map, sym, ap, ◌∙◌, subst, arith}
 use Rattle.std.specs.Prelude.{IsSome}
 use Rattle.std.proofs.lemmas.List.{length-append}
 use Rattle.values_undef.specs.Access.{leaves_choice}
@@ -10,7 +10,7 @@ use Rattle.message_memory.specs.Candidates.{location_of}
 use Rattle.message_memory.specs.Step.{IsLegal, step_result}
 use Rattle.view_machine.specs.State.{view_in}
 use Rattle.memory_likeness.specs.Moved.{opened}
-use Rattle.memory_likeness.specs.Answering.{puts_in, choice_behind}
+use Rattle.memory_likeness.specs.Answering.{puts_in}
 use Rattle.outcome_nodes.specs.Moved.{moved_entry}
 use Rattle.outcome_moves.specs.Room.{largest_stamp, AreSmall}
 use Rattle.outcome_moves.specs.Moves.{last_state}

@@ -1,10 +1,7 @@
-use Rattle.std.proofs.Common.{◌≡◌, ◌-◌, ◌≤◌, ltb, ℕ, true, false, sym, ap, ◌∙◌, subst, arith}
+use Rattle.std.proofs.Common.{◌≡◌, ◌-◌, ◌≤◌, ltb, ℕ, ap, ◌∙◌, subst}
 use Rattle.values_undef.specs.Journal.{used_steps}
-use Rattle.thread_core.specs.declared.next.Next.TheVariants as next
 use Rattle.view_machine.specs.State.{State, next_in}
 use Rattle.view_machine.specs.Runs.{after_silent, AreSilent}
-use Rattle.view_machine.specs.Held.{state_in}
-use Rattle.outcome_moves.specs.Moves.{last_state}
 use Rattle.outcome_moves.proofs.Making.{none_spends}
 use Rattle.outcome_moves.proofs.There.{silent_is, what_is}
 use Rattle.outcome_moves.proofs.standing.next_there.Goals as goal

@@ -1,4 +1,4 @@
-use Rattle.std.proofs.Common.{◌≡◌, ◌+◌, ◌≤◌, take, length}
+use Rattle.std.proofs.Common.{◌+◌, ◌≤◌, take, length}
 use Rattle.view_machine.specs.Runs.{IsRunTo}
 use Rattle.view_machine.specs.Held.{state_in, IsOf}
 use Rattle.outcome_moves.proofs.standing.stand.Given as goal
