@@ -1,0 +1,13 @@
+mod Pairing
+mod Times
+mod Steps
+mod Inserting
+mod Messages
+mod Moving
+mod Room
+mod Answers
+mod Opening
+mod MovedTimes
+mod MovedMessages
+mod MovedSteps
+pub mod Callers

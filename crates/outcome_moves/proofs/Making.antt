@@ -1,0 +1,193 @@
+-- An access that is tried where a run ends.
+use Rattle.std.proofs.Common.{◌≡◌, ◌⊎◌, inl, inr, ⊎_elim, ℕ, ◌-◌, ◌<◌, ◌≤◌, Bool, true, false, cond, eqb, ◌&&◌, List, [], ◌∷◌, ◌++◌, length, map, get_or, None, refl, sym, ap, ◌∙◌, subst, arith}
+use Rattle.std.specs.Prelude.{◌||◌, IsSome}
+use Rattle.std.specs.List.{AllByRecursion}
+use Rattle.std.proofs.lemmas.Bool.{cases_Bool, cond-true, cond-false, cond_both, eq-eqb, true≢false, false≢true}
+use Rattle.std.proofs.lemmas.List.{length-map, get_or-set_same}
+use Rattle.values_undef.specs.Access.{leaves_choice, is_failure, is_spend}
+use Rattle.values_undef.specs.Journal.{used_steps}
+use Rattle.values_undef.specs.declared.access.Access.{Access}
+use Rattle.values_undef.specs.declared.access.Choice.{Choice}
+use Rattle.values_undef.specs.declared.access.Event.{Event}
+use Rattle.values_undef.specs.declared.access.Event.TheVariants as event
+use Rattle.values_undef.specs.declared.journal.Entry.{Entry}
+use Rattle.il_syntax.specs.declared.program.Program.{Program}
+use Rattle.views.specs.ThreadView.{ThreadView, no_view}
+use Rattle.message_memory.specs.Memory.{Memory, messages, message_at}
+use Rattle.message_memory.specs.Candidates.{location_of}
+use Rattle.message_memory.specs.Step.{IsLegal, IsProper, step_result}
+use Rattle.thread_core.specs.declared.next.Next.{Next}
+use Rattle.thread_core.specs.declared.next.Next.TheVariants as next
+use Rattle.thread_core.specs.Programs.{IsProperProgram, IsProperAccess}
+use Rattle.thread_core.specs.Frames.{Stack, next_of}
+use Rattle.thread_core.specs.Alone.{HasSilent, local_after_silent}
+use Rattle.view_machine.specs.declared.stepped.Stepped.{Stepped}
+use Rattle.view_machine.specs.declared.stepped.Stepped.TheVariants as stepped
+use Rattle.view_machine.specs.State.{State, StepTaken, local_in, view_in, next_in, idle, IsRunning, step_by, after_step}
+use Rattle.view_machine.specs.Runs.{after_silent, AreSilent}
+use Rattle.view_machine.specs.Laws.{IsReached}
+use Rattle.view_machine.proofs.Callers.{proper_in, states_whole, silent_steps_local}
+use Rattle.run_choices.specs.Complete.{has_spent}
+use Rattle.memory_likeness.specs.Moved.{opened, moved}
+use Rattle.memory_likeness.specs.Answering.{puts_in, choice_behind}
+use Rattle.outcome_nodes.specs.Moved.{moved_entry}
+use Rattle.outcome_nodes.specs.Nodes.{Node, Asks, IsMove}
+use Rattle.outcome_nodes.specs.Standing.{node_of, IsNodeRun, GoesOnBy, FailsBy}
+use Rattle.outcome_nodes.proofs.Callers.{silent_has, has_steps, IsPrepared, prepared_moved, prepared_same, entry_of_access, steps_are, is_legal, is_move, goes_on, fails_in}
+use Rattle.outcome_moves.specs.Moves.{last_state, silent_there}
+use Rattle.outcome_moves.proofs.There.{running_there}
+
+-- ---- no thread ends for want of steps
+
+or_parts : (b c : Bool) → (b || c) ≡ false → (b ≡ false) × (c ≡ false)
+or_parts true c e = absurd (true≢false e)
+or_parts false c e = (refl, e)
+
+and_false : (b c : Bool) → b ≡ true → (b && c) ≡ false → c ≡ false
+and_false true c e q = q
+and_false false c e q = absurd (false≢true e)
+
+pub none_spends : (entries : List Entry) → ((j : ℕ) → has_spent entries j ≡ false) → AllByRecursion (λ e. is_spend e.event ≡ false) entries
+none_spends [] h = tt
+none_spends (e ∷ entries) h = (
+  and_false (eqb e.thread e.thread) (is_spend e.event) (eq-eqb e.thread e.thread refl) (or_parts _ _ (h e.thread)).0,
+  none_spends entries (λ j. (or_parts _ _ (h j)).1),
+)
+
+-- ---- all silent steps are made
+
+pub all_silent : (p : Program) (k r : ℕ) (l : Stack) → HasSilent p k l → HasSilent p r l → r ≤ k → (next_of (local_after_silent p r l) ≡ next.Silent → r ≡ k) → r ≡ k
+all_silent p k r l all some few stop = sym (steps_are p r k l some few stop) ∙ steps_are p k k l all (omega arith) (λ _. refl)
+
+-- so the thread stands at the access that it asks for
+pub ran : (p : Program) (u t v : State) (i k r : ℕ) (n : Next) (a : Access) → HasSilent p k (local_in u i) → IsRunning u i → next_of (local_after_silent p k (local_in u i)) ≡ next.Access a → t ≡ u → AreSilent p i r t → r ≤ k
+    → n ≡ next_in v i → (n ≡ next.Silent → r ≡ k) → v ≡ after_silent p i r t → next_in v i ≡ next.Access a
+ran p u t v i k r n a all running asks same silent few told stop led = next_local ∙ ap (λ (x : ℕ). next_of (local_after_silent p x (local_in u i))) made ∙ asks
+  where
+    has : HasSilent p r (local_in u i)
+    has = subst (λ (x : State). HasSilent p r (local_in x i)) same (silent_has p i r t silent)
+
+    next_local : next_in v i ≡ next_of (local_after_silent p r (local_in u i))
+    next_local =
+        ap (λ (x : State). next_in x i) (led ∙ ap (after_silent p i r) same ∙ (silent_steps_local p i r u running has).1)
+        ∙ ap (λ (x : Stack). next_of x) (get_or-set_same u.locals i (local_after_silent p r (local_in u i)) idle running.there)
+
+    made : r ≡ k
+    made = all_silent p k r (local_in u i) all has few (λ e. stop (told ∙ next_local ∙ e))
+
+pub event_there : (u t : State) (i : ℕ) (a : Access) (c : Choice) → t.memory ≡ u.memory → t.views ≡ u.views → (step_result t.memory (view_in t i) i a c).event ≡ (step_result u.memory (view_in u i) i a c).event
+event_there u t i a c em ev =
+    ap (λ (m : Memory). (step_result m (view_in t i) i a c).event) em ∙ ap (λ (w : List ThreadView). (step_result u.memory (get_or w i no_view) i a c).event) ev
+
+pub legal_there : (u : State) (i : ℕ) (a : Access) (c : Choice) (m : Memory) (views : List ThreadView) → m ≡ u.memory → views ≡ u.views → IsLegal m (get_or views i no_view) a c → IsLegal u.memory (view_in u i) a c
+legal_there u i a c m views em ev h =
+    subst (λ (x : Memory). IsLegal x (view_in u i) a c) em (subst (λ (w : List ThreadView). IsLegal m (get_or w i no_view) a c) ev h)
+
+-- ---- the event of a step
+
+abbrev event_done : Stepped → Event
+event_done stepped.Silent = event.Spend
+event_done (stepped.Did e) = e
+
+pub event_made : (p : Program) (t u : State) (i : ℕ) (c : Choice) (e : Event) (a : Access) → next_in t i ≡ next.Access a → after_step p t i c ≡ record { state = u; done = stepped.Did e } → e ≡ (step_result t.memory (view_in t i) i a c).event
+event_made p t u i c e a asks made = sym (ap event_done (ap (λ (n : Next). (step_by p t i c n).done) (sym asks) ∙ ap (λ (x : StepTaken). x.done) made))
+
+-- ---- the run after room was made
+
+module _ (p : Program) (steps : ℕ) (entries : List Entry) (i : ℕ) (a : Access) (b : ℕ) (ok : IsProperProgram p) (run : IsNodeRun p steps entries) (l : i < length p.threads) (asks : Asks steps (node_of p steps entries) i a) (named : IsProperAccess p a) where
+  abbrev s : State
+  s = last_state p entries
+
+  abbrev n : Node
+  n = node_of p steps entries
+
+  reached : IsReached p s
+  reached = states_whole p entries s ok run.stands.run
+
+  pub proper_there : IsProper (last_state p entries).memory a
+  proper_there = proper_in p s.memory a reached.na reached.atomic named
+
+  -- no message ends at b
+  pub tried_absent : leaves_choice a ≡ true → message_at b (messages (last_state p entries).memory (location_of a)) ≡ None → IsMove (node_of p steps entries) i a b → ⊥
+  tried_absent h none move = false≢true (subst IsSome none (subst (λ (m : Memory). IsSome (message_at b (messages m (location_of a)))) run.stands.memory (move.found h)))
+
+  module _ (puts : Bool) (after : List Entry) (told : puts ≡ puts_in (last_state p entries).memory a b) (made : after ≡ cond puts (map (moved_entry (location_of a) (opened b)) entries) entries) where
+    abbrev pub u : State
+    u = last_state p after
+
+    pub prepared_there : IsPrepared p entries (last_state p entries) a b after (last_state p after)
+    prepared_there =
+        ⊎_elim
+        (λ (h : puts ≡ true).
+        let q = prepared_moved p entries s a b ok run.stands.run proper_there reached.atomic (sym told ∙ h) in
+        back (map (moved_entry (location_of a) (opened b)) entries) _ (made ∙ cond-true puts _ _ h) q)
+        (λ (h : puts ≡ false). back entries _ (made ∙ cond-false puts _ _ h) (prepared_same p entries s a b run.stands.run (sym told ∙ h)))
+        (cases_Bool puts)
+      where
+        back : (xs : List Entry) (t : State) → after ≡ xs → IsPrepared p entries s a b xs t → IsPrepared p entries s a b after (last_state p after)
+        back xs t e q =
+            subst (λ (ys : List Entry). IsPrepared p entries s a b ys (last_state p ys)) (sym e)
+            (subst (IsPrepared p entries s a b xs) (sym q.run.state) q)
+
+    pub after_unspent : AllByRecursion (λ e. is_spend e.event ≡ false) after
+    after_unspent = none_spends after (λ j. prepared_there.spent j ∙ run.stands.unspent j)
+
+    pub after_few : length after ≡ length entries
+    after_few =
+        ap (λ (xs : List Entry). length xs) made
+        ∙ cond_both puts (map (moved_entry (location_of a) (opened b)) entries) entries (λ (xs : List Entry). length xs ≡ length entries) (λ _. length-map entries (moved_entry (location_of a) (opened b))) (λ _. refl)
+
+    going : (last_state p after).memory.failed ≡ false
+    going =
+        ap (λ (m : Memory). m.failed) prepared_there.memory
+        ∙ cond_both (puts_in s.memory a b) (moved s.memory (location_of a) (opened b)) s.memory (λ (m : Memory). m.failed ≡ false) (λ _. run.stands.running) (λ _. run.stands.running)
+
+    pub running_then : IsRunning (last_state p after) i
+    running_then =
+        let r = running_there p steps entries i ok run l in
+        record {
+          there = omega (arith, ap {B = ℕ} length prepared_there.locals, r.there);
+          going = ap (λ (x : List Bool). get_or x i true) prepared_there.ended ∙ r.going;
+          running = going;
+        }
+
+    local_then : local_in (last_state p after) i ≡ local_in s i
+    local_then = ap (λ (x : List Stack). get_or x i idle) prepared_there.locals
+
+    pub silent_then : (k : ℕ) → k ≡ silent_there p steps entries i → HasSilent p k (local_in (last_state p after) i)
+    silent_then k e =
+        subst (λ (x : ℕ). HasSilent p x (local_in (last_state p after) i)) (sym e)
+        (subst (HasSilent p (silent_there p steps entries i)) (sym local_then) (has_steps p (steps - used_steps entries i) (local_in s i)))
+
+    pub asks_then : (k : ℕ) → k ≡ silent_there p steps entries i → next_of (local_after_silent p k (local_in (last_state p after) i)) ≡ next.Access a
+    asks_then k e =
+        ap (λ (x : ℕ). next_of (local_after_silent p x (local_in (last_state p after) i))) e
+        ∙ ap (λ (x : Stack). next_of (local_after_silent p (silent_there p steps entries i) x)) local_then
+        ∙ ap (λ (x : Stack). next_of x) (sym (run.stands.locals i l)) ∙ asks.next
+
+    pub tried_illegal : (c : Choice) → c ≡ choice_behind (last_state p entries).memory a b → (IsLegal (last_state p after).memory (view_in (last_state p after) i) a c → ⊥) → IsMove (node_of p steps entries) i a b → ⊥
+    tried_illegal c e never move =
+        never (subst (IsLegal (last_state p after).memory (view_in (last_state p after) i) a) (sym e) (is_legal p steps n entries s ok run.reached run.stands i a b l asks after u prepared_there move))
+
+    pub tried_some : (c : Choice) (k : ℕ) (x : Event) (list : List Entry) (f : Bool) → c ≡ choice_behind (last_state p entries).memory a b → k ≡ silent_there p steps entries i
+        → (leaves_choice a ≡ true → IsSome (message_at b (messages (last_state p entries).memory (location_of a))))
+        → IsLegal (last_state p after).memory (view_in (last_state p after) i) a c → x ≡ (step_result (last_state p after).memory (view_in (last_state p after) i) i a c).event
+        → list ≡ after ++ record { thread = i; silent = k; event = x } ∷ [] → f ≡ is_failure x
+        → IsMove (node_of p steps entries) i a b × (((f ≡ true) × FailsBy p steps (node_of p steps entries) i a b list) ⊎ ((f ≡ false) × GoesOnBy p steps (node_of p steps entries) i a b list))
+    tried_some c k x list f e q found legal made_event told_list fails =
+        let move : IsMove n i a b = is_move p steps n entries s ok run.reached run.stands i a b l asks after u prepared_there found (subst (IsLegal (last_state p after).memory (view_in (last_state p after) i) a) e legal) in (
+          move,
+          ⊎_elim
+              (λ (h : is_failure x ≡ true). inl (fails ∙ h, subst (λ (ys : List Entry). FailsBy p steps n i a b ys) (sym same) (fails_in p steps n entries s ok run.reached run.stands i a b l asks after u prepared_there move (ap is_failure (sym event_same) ∙ h))))
+              (λ (h : is_failure x ≡ false). inr (fails ∙ h, subst (λ (ys : List Entry). GoesOnBy p steps n i a b ys) (sym same) (goes_on p steps n entries s ok run.reached run.stands i a b l asks after u prepared_there move (ap is_failure (sym event_same) ∙ h))))
+              (cases_Bool (is_failure x)),
+        )
+      where
+        event_same : x ≡ (step_result (last_state p after).memory (view_in (last_state p after) i) i a (choice_behind (last_state p entries).memory a b)).event
+        event_same = made_event ∙ ap (λ (d : Choice). (step_result (last_state p after).memory (view_in (last_state p after) i) i a d).event) e
+
+        entry_same : (let y : Entry = record { thread = i; silent = k; event = x } in y) ≡ entry_of_access (last_state p after) i (silent_there p steps entries i) a (choice_behind (last_state p entries).memory a b)
+        entry_same = ap (λ (z : ℕ). let y : Entry = record { thread = i; silent = z; event = x } in y) q ∙ ap (λ (z : Event). let y : Entry = record { thread = i; silent = silent_there p steps entries i; event = z } in y) event_same
+
+        same : list ≡ after ++ entry_of_access (last_state p after) i (silent_there p steps entries i) a (choice_behind (last_state p entries).memory a b) ∷ []
+        same = told_list ∙ ap (λ (y : Entry). after ++ y ∷ []) entry_same

@@ -1,0 +1,165 @@
+//! All moves from where a run ends.
+ghost use Rattle.std.specs.Prelude.{◌≡◌, ℕ, ◌^◌, ◌<◌, ◌≤◌, Some, IfOk, OnOk, IfSome, length};
+ghost use Rattle.std.specs.List.{AllByRecursion};
+ghost use Rattle.thread_core.specs.Programs.{IsProperProgram, IsProperAccess};
+ghost use Rattle.outcome_nodes.specs.Nodes.{Asks, IsMove};
+ghost use Rattle.outcome_nodes.specs.Standing.{node_of, IsNodeRun};
+ghost use Rattle.outcome_moves.specs.Room.{AreSmall};
+ghost use Rattle.outcome_moves.specs.Ends.{end_in};
+ghost use Rattle.outcome_moves.specs.Moves.{silent_there, HasMove, HasMovesOf, GrowsBy, IsSomeMove, IsSmallMove};
+
+use crate::moves::{Move, end_in, location_of, try_move};
+use crate::standing::{What, next_there};
+use il_syntax::Program;
+use std::alloc::Global;
+use values_undef::{Access, Entry, NoMemory};
+
+/// Adds the move of the access at the message that ends at `b`, if there is one.
+fn add_move(
+    alloc: Global,
+    p: &Program,
+    _steps: u64,
+    entries: &[Entry],
+    thread: u32,
+    silent: u64,
+    a: &Access,
+    b: u64,
+    moves: &mut Vec<Move>,
+) -> Result<(), NoMemory>
+    requires proper { IsProperProgram p.now }
+    requires run { IsNodeRun p.now _steps entries.now }
+    requires few { length entries.now < 2 ^ 32 }
+    requires small { AreSmall (2 ^ 60) entries.now }
+    requires low { b ≤ 2 ^ 60 }
+    requires lowest { (most : ℕ) → AreSmall most entries.now → b ≤ most }
+    requires there { thread < length p.now.threads }
+    requires silent { silent ≡ silent_there p.now _steps entries.now thread }
+    requires asks { Asks _steps (node_of p.now _steps entries.now) thread a.now }
+    requires named { IsProperAccess p.now a.now }
+    ensures grows { OnOk result (GrowsBy p.now _steps (node_of p.now _steps entries.now) entries.now moves.old.items moves.new.items) }
+    ensures added { OnOk result (IsMove (node_of p.now _steps entries.now) thread a.now b → HasMove p.now _steps (node_of p.now _steps entries.now) moves.new.items thread a.now b) }
+{
+    if let Some(m) = try_move(alloc, p, _steps, entries, thread, silent, a, b)? {
+        moves.push(m)?;
+    }
+    Ok(())
+}
+
+/// Adds the move of the access at the message of location `y` that an entry put in, if it put in one.
+fn add_end(
+    alloc: Global,
+    p: &Program,
+    _steps: u64,
+    entries: &[Entry],
+    thread: u32,
+    silent: u64,
+    a: &Access,
+    y: u32,
+    entry: &Entry,
+    moves: &mut Vec<Move>,
+) -> Result<(), NoMemory>
+    requires proper { IsProperProgram p.now }
+    requires run { IsNodeRun p.now _steps entries.now }
+    requires few { length entries.now < 2 ^ 32 }
+    requires small { AreSmall (2 ^ 60) entries.now }
+    requires low { (most : ℕ) (b : ℕ) → AreSmall most entries.now → end_in y entry.now.event ≡ Some b → b ≤ most }
+    requires there { thread < length p.now.threads }
+    requires silent { silent ≡ silent_there p.now _steps entries.now thread }
+    requires asks { Asks _steps (node_of p.now _steps entries.now) thread a.now }
+    requires named { IsProperAccess p.now a.now }
+    ensures grows { OnOk result (GrowsBy p.now _steps (node_of p.now _steps entries.now) entries.now moves.old.items moves.new.items) }
+    ensures added { OnOk result ((b : ℕ) → end_in y entry.now.event ≡ Some b → IsMove (node_of p.now _steps entries.now) thread a.now b → HasMove p.now _steps (node_of p.now _steps entries.now) moves.new.items thread a.now b) }
+{
+    match end_in(entry, y) {
+        None => Ok(()),
+        Some(b) => add_move(alloc, p, _steps, entries, thread, silent, a, b, moves),
+    }
+}
+
+/// Adds the moves of a thread.
+fn add_moves(
+    alloc: Global,
+    p: &Program,
+    steps: u64,
+    entries: &[Entry],
+    thread: u32,
+    moves: &mut Vec<Move>,
+) -> Result<(), NoMemory>
+    requires proper { IsProperProgram p.now }
+    requires run { IsNodeRun p.now steps entries.now }
+    requires few { length entries.now < 2 ^ 32 }
+    requires steps { steps < 2 ^ 32 }
+    requires small { AreSmall (2 ^ 60) entries.now }
+    requires there { thread < length p.now.threads }
+    ensures grows { OnOk result (GrowsBy p.now steps (node_of p.now steps entries.now) entries.now moves.old.items moves.new.items) }
+    ensures all { OnOk result (HasMovesOf p.now steps (node_of p.now steps entries.now) moves.new.items thread) }
+{
+    let (silent, what) = next_there(alloc, p, steps, entries, thread)?;
+    let What::Asks { a } = what else {
+        return Ok(());
+    };
+    add_move(alloc, p, steps, entries, thread, silent, &a, 0, moves)?;
+    if !a.leaves_choice() {
+        return Ok(());
+    }
+    let y = location_of(&a);
+    for k in 0..entries.len() {
+        add_end(
+            alloc,
+            p,
+            steps,
+            entries,
+            thread,
+            silent,
+            &a,
+            y,
+            &entries[k],
+            moves,
+        )?;
+    }
+    Ok(())
+}
+
+/// The moves of so many threads.
+fn moves_by(
+    alloc: Global,
+    p: &Program,
+    steps: u64,
+    entries: &[Entry],
+    threads: u32,
+) -> Result<Vec<Move>, NoMemory>
+    requires proper { IsProperProgram p.now }
+    requires run { IsNodeRun p.now steps entries.now }
+    requires few { length entries.now < 2 ^ 32 }
+    requires steps { steps < 2 ^ 32 }
+    requires small { AreSmall (2 ^ 60) entries.now }
+    requires threads { length p.now.threads ≡ threads }
+    ensures all { IfOk result (λ moves. (i : ℕ) → i < threads → HasMovesOf p.now steps (node_of p.now steps entries.now) moves.items i) }
+    ensures only { IfOk result (λ moves. AllByRecursion (IsSomeMove p.now steps (node_of p.now steps entries.now)) moves.items) }
+    ensures small { IfOk result (λ moves. AllByRecursion (IsSmallMove entries.now) moves.items) }
+{
+    let mut moves = Vec::new(alloc);
+    for thread in 0..threads {
+        add_moves(alloc, p, steps, entries, thread, &mut moves)?;
+    }
+    Ok(moves)
+}
+
+/// All moves that threads may make where the run ends, each with the run that it leads to.
+pub fn moves_of(
+    alloc: Global,
+    p: &Program,
+    steps: u64,
+    entries: &[Entry],
+) -> Result<Vec<Move>, NoMemory>
+    requires proper { IsProperProgram p.now }
+    requires run { IsNodeRun p.now steps entries.now }
+    requires few { length entries.now < 2 ^ 32 }
+    requires steps { steps < 2 ^ 32 }
+    requires small { AreSmall (2 ^ 60) entries.now }
+    ensures all { IfOk result (λ moves. (i : ℕ) → i < length p.now.threads → HasMovesOf p.now steps (node_of p.now steps entries.now) moves.items i) }
+    ensures only { IfOk result (λ moves. AllByRecursion (IsSomeMove p.now steps (node_of p.now steps entries.now)) moves.items) }
+    ensures small { IfOk result (λ moves. AllByRecursion (IsSmallMove entries.now) moves.items) }
+{
+    moves_by(alloc, p, steps, entries, p.threads.len() as u32)
+}
