@@ -6,8 +6,8 @@ use Rattle.std.proofs.lemmas.List.{append_assoc, take_all}
 use Rattle.std.proofs.lemmas.List.Folds.{list_any-append, list_any_more}
 use Rattle.std.proofs.lemmas.List.Sums.{sum_by-cons}
 use Rattle.il_syntax.specs.declared.program.Program.{Program}
-use Rattle.litmus.specs.Outcome.{Outcome, same_outcome}
-use Rattle.litmus.specs.Table.{Run, IsRow, IsTable, run_at, same_end, is_first, firsts}
+use Rattle.litmus.specs.Outcome.{EndAndOutputs, same_outcome}
+use Rattle.litmus.specs.Table.{Run, IsTableRow, IsOutcomeTable, run_at, same_end, is_first, firsts}
 use Rattle.litmus.specs.declared.table.Sample.{Sample}
 use Rattle.litmus.proofs.Outcomes.{told, same_is}
 use Rattle.litmus.proofs.Tables.{firsts_below, firsts_more}
@@ -48,7 +48,7 @@ abbrev own : List Run → ℕ → Run → ℕ
 own runs n r = total (λ i. one_if (same_end (run_at runs i) r)) (cond (is_first runs n) (n ∷ []) [])
 
 same_back : (a b : Run) → same_end a b ≡ true → same_end b a ≡ true
-same_back a b e = subst (λ (o : Outcome). same_outcome o a.outcome ≡ true) (told a.outcome b.outcome e) (same_is a.outcome)
+same_back a b e = subst (λ (o : EndAndOutputs). same_outcome o a.outcome ≡ true) (told a.outcome b.outcome e) (same_is a.outcome)
 
 or_none : (a b : Bool) → b ≡ false → (a || b) ≡ a
 or_none false false e = refl
@@ -95,7 +95,7 @@ one_more_hit runs n r within before = add ∙ step (same_end r (run_at runs n)) 
     step true e =
         let outcome : r.outcome ≡ (run_at runs n).outcome = told r.outcome (run_at runs n).outcome e in
         let moved : list_any (same_end r) (take n runs) ≡ list_any (same_end (run_at runs n)) (take n runs) =
-        ap (λ (o : Outcome). list_any (λ (x : Run). same_outcome o x.outcome) (take n runs)) outcome in
+        ap (λ (o : EndAndOutputs). list_any (λ (x : Run). same_outcome o x.outcome) (take n runs)) outcome in
         let found : (list_any (same_end r) (take n runs) || same_end r (run_at runs n)) ≡ true = or_right (list_any (same_end r) (take n runs)) (same_end r (run_at runs n)) e in
         let front : hits runs n r ≡ one_if (list_any (same_end (run_at runs n)) (take n runs)) = before ∙ ap one_if moved in
         let last : own runs n r ≡ one_if (not (list_any (same_end (run_at runs n)) (take n runs))) = one e (list_any (same_end (run_at runs n)) (take n runs)) refl in
@@ -122,7 +122,7 @@ total_same : {X : Type 0} (f g : X → ℕ) (xs : List X) → ((x : X) → f x �
 total_same f g [] h = refl
 total_same f g (x ∷ xs) h = ap₂ (λ (a b : ℕ). a + b) (h x) (total_same f g xs h)
 
-counts_are : (seed : ℕ) (runs : List Run) (ks : List ℕ) (samples : List Sample) → AllZip (IsRow seed runs) ks samples
+counts_are : (seed : ℕ) (runs : List Run) (ks : List ℕ) (samples : List Sample) → AllZip (IsTableRow seed runs) ks samples
     → total (λ (s : Sample). s.count) samples ≡ total (λ k. total (λ r. one_if (same_end (run_at runs k) r)) runs) ks
 counts_are seed runs [] [] h = refl
 counts_are seed runs [] (s ∷ samples) h = absurd h
@@ -130,7 +130,7 @@ counts_are seed runs (k ∷ ks) [] h = absurd h
 counts_are seed runs (k ∷ ks) (s ∷ samples) h =
     ap₂ (λ (x y : ℕ). x + y) (h.0.count ∙ sum_total (λ r. one_if (same_end (run_at runs k) r)) runs) (counts_are seed runs ks samples h.1)
 
-pub counts_sum : (p : Program) (seed seeds steps : ℕ) (samples : List Sample) → IsTable p seed seeds steps samples → sum_by (λ (s : Sample). s.count) samples ≡ seeds
+pub counts_sum : (p : Program) (seed seeds steps : ℕ) (samples : List Sample) → IsOutcomeTable p seed seeds steps samples → sum_by (λ (s : Sample). s.count) samples ≡ seeds
 counts_sum p seed seeds steps samples t =
     let runs = t.runs in
     let whole : take (length runs) runs ≡ runs = take_all (length runs) runs (omega arith) in

@@ -9,7 +9,7 @@ use Rattle.std.proofs.lemmas.Slice.Eq.{slice_eq-Decides}
 use Rattle.values_undef.specs.declared.journal.Ending.{Ending}
 use Rattle.values_undef.specs.declared.journal.Ending.TheVariants.{Done, Failed, Spent}
 use Rattle.litmus.specs.declared.outcome.Printed.{Printed}
-use Rattle.litmus.specs.Outcome.{Outcome, same_ending, same_printed, same_outcome}
+use Rattle.litmus.specs.Outcome.{EndAndOutputs, same_ending, same_printed, same_outcome}
 
 printed_decided : (a b : Printed) → Decides (same_printed a b) (a ≡ b)
 printed_decided a b = (
@@ -42,15 +42,15 @@ ending_same Spent = refl
 outputs_decided : (xs ys : List Printed) → Decides (pointwise same_printed xs ys) (xs ≡ ys)
 outputs_decided xs ys = slice_eq-Decides printed_decided xs ys (pointwise same_printed xs ys) refl
 
-pub told : (a b : Outcome) → same_outcome a b ≡ true → a ≡ b
+pub told : (a b : EndAndOutputs) → same_outcome a b ≡ true → a ≡ b
 told a b e =
     let both = and_parts (same_ending a.ending b.ending) (pointwise same_printed a.outputs b.outputs) e in
     let ending = ending_forward a.ending b.ending both.0 in
     let outputs = (outputs_decided a.outputs b.outputs).0 both.1 in
     λ i. record { ending = ending i; outputs = outputs i }
 
-pub same_is : (a : Outcome) → same_outcome a a ≡ true
+pub same_is : (a : EndAndOutputs) → same_outcome a a ≡ true
 same_is a = and_from (same_ending a.ending a.ending) (pointwise same_printed a.outputs a.outputs) (ending_same a.ending) ((outputs_decided a.outputs a.outputs).1 refl)
 
-pub told_apart : (a b : Outcome) → (same_outcome a b ≡ true) ↔ (a ≡ b)
-told_apart a b = (told a b, λ e. subst (λ (o : Outcome). same_outcome a o ≡ true) e (same_is a))
+pub told_apart : (a b : EndAndOutputs) → (same_outcome a b ≡ true) ↔ (a ≡ b)
+told_apart a b = (told a b, λ e. subst (λ (o : EndAndOutputs). same_outcome a o ≡ true) e (same_is a))

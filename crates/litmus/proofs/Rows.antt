@@ -8,9 +8,9 @@ use Rattle.values_undef.specs.Journal.{ending_in}
 use Rattle.values_undef.specs.declared.journal.Entry.{Entry}
 use Rattle.il_syntax.specs.declared.program.Program.{Program}
 use Rattle.litmus.specs.Laws.{IsRunOfSeeds}
-use Rattle.litmus.specs.Outcome.{Outcome}
+use Rattle.litmus.specs.Outcome.{EndAndOutputs}
 use Rattle.litmus.specs.Sampled.{IsSampled}
-use Rattle.litmus.specs.Table.{Run, IsRow, IsTable, is_first, firsts, run_at}
+use Rattle.litmus.specs.Table.{Run, IsTableRow, IsOutcomeTable, is_first, firsts, run_at}
 use Rattle.litmus.specs.declared.table.Sample.{Sample}
 
 zip_all : (R : ℕ → Sample → Type 0) (Q : Sample → Type 0) (n : ℕ) (ks : List ℕ) (samples : List Sample) → AllZip R ks samples → All (λ k. k < n) ks
@@ -27,9 +27,9 @@ range_below n = All-from_get_or (λ k. k < n) (range_with_len 0 n) 0 (λ i lt.
     let is = get_or-range_with_len 0 n i 0 below in
     omega (arith, is, below))
 
-pub rows_are_runs : (p : Program) (seed seeds steps : ℕ) (samples : List Sample) → IsTable p seed seeds steps samples → All (IsRunOfSeeds p seed seeds steps) samples
+pub rows_are_runs : (p : Program) (seed seeds steps : ℕ) (samples : List Sample) → IsOutcomeTable p seed seeds steps samples → All (IsRunOfSeeds p seed seeds steps) samples
 rows_are_runs p seed seeds steps samples t =
-    zip_all (IsRow seed t.runs) (IsRunOfSeeds p seed seeds steps) (length t.runs) (firsts t.runs) samples t.rows (All-filter (is_first t.runs) (λ k. k < length t.runs) (range_with_len 0 (length t.runs)) (range_below (length t.runs)))
+    zip_all (IsTableRow seed t.runs) (IsRunOfSeeds p seed seeds steps) (length t.runs) (firsts t.runs) samples t.rows (All-filter (is_first t.runs) (λ k. k < length t.runs) (range_with_len 0 (length t.runs)) (range_below (length t.runs)))
     (λ k s lt row.
     let below : k < seeds = omega (arith, lt, t.count) in
     let of = t.each k below in
@@ -38,5 +38,5 @@ rows_are_runs p seed seeds steps samples t =
       from = omega (arith, row.seed_is);
       below = omega (arith, row.seed_is, below);
       sampled = subst (λ (n : ℕ). IsSampled p n steps s.journal) (sym row.seed_is) (subst (IsSampled p (seed + k) steps) journal of.sampled);
-      ending = row.ending ∙ ap (λ (o : Outcome). o.ending) of.outcome ∙ ap (λ (j : List Entry). ending_in j (length p.threads)) journal;
+      ending = row.ending ∙ ap (λ (o : EndAndOutputs). o.ending) of.outcome ∙ ap (λ (j : List Entry). ending_in j (length p.threads)) journal;
     })

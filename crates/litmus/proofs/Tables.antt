@@ -4,7 +4,7 @@ use Rattle.std.specs.List.{AllZip, filter, range_with_len}
 use Rattle.std.proofs.lemmas.List.Elements.{filter-append}
 use Rattle.std.proofs.lemmas.List.{append-nil}
 use Rattle.il_syntax.specs.declared.program.Program.{Program}
-use Rattle.litmus.specs.Table.{Run, IsRow, IsRunOf, IsTable, is_first, firsts, run_at}
+use Rattle.litmus.specs.Table.{Run, IsTableRow, IsRunOf, IsOutcomeTable, is_first, firsts, run_at}
 use Rattle.litmus.specs.declared.table.Sample.{Sample}
 
 -- the first runs below run n
@@ -39,17 +39,17 @@ pub firsts_more : (runs : List Run) (n : ℕ) → firsts_below runs (n + 1) ≡ 
 firsts_more runs n = ap (filter (is_first runs)) (range_from_zero n) ∙ filter-append (is_first runs) (range_with_len 0 n) (n ∷ [])
 
 -- a run that isn't the first has no row
-pub row_passed : (seed : ℕ) (runs : List Run) (n : ℕ) (samples : List Sample) → is_first runs n ≡ false → AllZip (IsRow seed runs) (firsts_below runs n) samples
-    → AllZip (IsRow seed runs) (firsts_below runs (n + 1)) samples
+pub row_passed : (seed : ℕ) (runs : List Run) (n : ℕ) (samples : List Sample) → is_first runs n ≡ false → AllZip (IsTableRow seed runs) (firsts_below runs n) samples
+    → AllZip (IsTableRow seed runs) (firsts_below runs (n + 1)) samples
 row_passed seed runs n samples no_first h =
     let same : firsts_below runs n ++ cond false (n ∷ []) [] ≡ firsts_below runs n = append-nil (firsts_below runs n) in
-    subst (λ (ks : List ℕ). AllZip (IsRow seed runs) ks samples) (sym (firsts_more runs n ∙ ap (λ (b : Bool). firsts_below runs n ++ cond b (n ∷ []) []) no_first ∙ same)) h
+    subst (λ (ks : List ℕ). AllZip (IsTableRow seed runs) ks samples) (sym (firsts_more runs n ∙ ap (λ (b : Bool). firsts_below runs n ++ cond b (n ∷ []) []) no_first ∙ same)) h
 
-pub row_added : (seed : ℕ) (runs : List Run) (n : ℕ) (samples new : List Sample) (s : Sample) → is_first runs n ≡ true → AllZip (IsRow seed runs) (firsts_below runs n) samples → IsRow seed runs n s
-    → new ≡ samples ++ s ∷ [] → AllZip (IsRow seed runs) (firsts_below runs (n + 1)) new
+pub row_added : (seed : ℕ) (runs : List Run) (n : ℕ) (samples new : List Sample) (s : Sample) → is_first runs n ≡ true → AllZip (IsTableRow seed runs) (firsts_below runs n) samples → IsTableRow seed runs n s
+    → new ≡ samples ++ s ∷ [] → AllZip (IsTableRow seed runs) (firsts_below runs (n + 1)) new
 row_added seed runs n samples new s first h row pushed =
-    subst (λ (ks : List ℕ). AllZip (IsRow seed runs) ks new) (sym (firsts_more runs n ∙ ap (λ (b : Bool). firsts_below runs n ++ cond b (n ∷ []) []) first))
-    (subst (AllZip (IsRow seed runs) (firsts_below runs n ++ n ∷ [])) (sym pushed) (zip_append (IsRow seed runs) (firsts_below runs n) (n ∷ []) samples (s ∷ []) h (row, tt)))
+    subst (λ (ks : List ℕ). AllZip (IsTableRow seed runs) ks new) (sym (firsts_more runs n ∙ ap (λ (b : Bool). firsts_below runs n ++ cond b (n ∷ []) []) first))
+    (subst (AllZip (IsTableRow seed runs) (firsts_below runs n ++ n ∷ [])) (sym pushed) (zip_append (IsTableRow seed runs) (firsts_below runs n) (n ∷ []) samples (s ∷ []) h (row, tt)))
 
 seed_more : (p : Program) (seed n steps : ℕ) (r : Run) (runs : List Run) → IsRunOf p seed steps r → (length runs ≡ n) × ((k : ℕ) → k < n → IsRunOf p (seed + 1 + k) steps (run_at runs k))
     → (suc (length runs) ≡ suc n) × ((k : ℕ) → k < suc n → IsRunOf p (seed + k) steps (run_at (r ∷ runs) k))
@@ -72,7 +72,7 @@ each_seed p seed (suc n) steps [] h = absurd h
 each_seed p seed (suc n) steps (r ∷ runs) h = seed_more p seed n steps r runs h.0 (each_seed p (seed + 1) n steps runs h.1)
 
 pub table_of : (p : Program) (seed seeds steps : ℕ) (runs : List Run) (samples : List Sample) → AllZip (λ (s : ℕ) (r : Run). IsRunOf p s steps r) (range_with_len seed seeds) runs
-    → AllZip (IsRow seed runs) (firsts runs) samples → IsTable p seed seeds steps samples
+    → AllZip (IsTableRow seed runs) (firsts runs) samples → IsOutcomeTable p seed seeds steps samples
 table_of p seed seeds steps runs samples h rows =
     let each = each_seed p seed seeds steps runs h in
     record { runs = runs; count = each.0; each = each.1; rows = rows }

@@ -26,12 +26,12 @@ abbrev pub by_thread : List Printed → List Printed
 by_thread outputs = flat_map (λ thread. of_thread thread outputs) (range_with_len 0 16)
 
 -- what a run comes to
-pub record Outcome : Type 0 where
+pub record EndAndOutputs : Type 0 where
   pub ending : Ending
   pub outputs : List Printed
 
 -- the outcome of a journal of a program with so many threads
-abbrev pub outcome_in : List Entry → ℕ → Outcome
+abbrev pub outcome_in : List Entry → ℕ → EndAndOutputs
 outcome_in journal threads = record { ending = ending_in journal threads; outputs = by_thread (printed_in journal) }
 
 -- Whether two outcomes are the same. `OutcomesAreToldApart` says that this is equality.
@@ -45,5 +45,5 @@ same_ending _ _ = false
 abbrev pub same_printed : Printed → Printed → Bool
 same_printed a b = (a.thread == b.thread) && int_eq a.value b.value
 
-abbrev pub same_outcome : Outcome → Outcome → Bool
+abbrev pub same_outcome : EndAndOutputs → EndAndOutputs → Bool
 same_outcome a b = same_ending a.ending b.ending && pointwise same_printed a.outputs b.outputs

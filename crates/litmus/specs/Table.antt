@@ -5,21 +5,21 @@ use Rattle.values_undef.specs.declared.journal.Ending.{Ending}
 use Rattle.values_undef.specs.declared.journal.Ending.TheVariants.{Spent}
 use Rattle.values_undef.specs.declared.journal.Entry.{Entry}
 use Rattle.il_syntax.specs.declared.program.Program.{Program}
-use Rattle.litmus.specs.Outcome.{Outcome, outcome_in, same_outcome}
+use Rattle.litmus.specs.Outcome.{EndAndOutputs, outcome_in, same_outcome}
 use Rattle.litmus.specs.Sampled.{IsSampled}
 use Rattle.litmus.specs.declared.table.Sample.{Sample}
 
 -- a run with what it comes to
 pub record Run : Type 0 where
   pub journal : List Entry
-  pub outcome : Outcome
+  pub outcome : EndAndOutputs
 
 -- what stands for a run that is not there
-abbrev pub no_run : Run
-no_run = record { journal = []; outcome = record { ending = Spent; outputs = [] } }
+abbrev pub absent_run : Run
+absent_run = record { journal = []; outcome = record { ending = Spent; outputs = [] } }
 
 abbrev pub run_at : List Run → ℕ → Run
-run_at runs k = get_or runs k no_run
+run_at runs k = get_or runs k absent_run
 
 -- two runs come to one outcome
 abbrev pub same_end : Run → Run → Bool
@@ -34,7 +34,7 @@ abbrev pub firsts : List Run → List ℕ
 firsts runs = filter (is_first runs) (range_with_len 0 (length runs))
 
 -- the row of run k, where the runs are those of the seeds from `seed` on: its seed, how many runs have its outcome, and its journal
-pub record IsRow (seed : ℕ) (runs : List Run) (k : ℕ) (s : Sample) : Type 0 where
+pub record IsTableRow (seed : ℕ) (runs : List Run) (k : ℕ) (s : Sample) : Type 0 where
   pub seed_is : s.seed ≡ seed + k
   pub count : s.count ≡ count_by (same_end (run_at runs k)) runs
   pub journal : s.journal ≡ (run_at runs k).journal
@@ -47,8 +47,8 @@ pub record IsRunOf (p : Program) (seed steps : ℕ) (r : Run) : Type 0 where
 
 -- The table of so many seeds, from `seed` on: of the runs of the seeds, each that is the first with its outcome has its row, in
 -- the order of the seeds. So each outcome has one row, which names its least seed.
-pub record IsTable (p : Program) (seed seeds steps : ℕ) (samples : List Sample) : Type 0 where
+pub record IsOutcomeTable (p : Program) (seed seeds steps : ℕ) (samples : List Sample) : Type 0 where
   pub runs : List Run
   pub count : length runs ≡ seeds
   pub each : (k : ℕ) → k < seeds → IsRunOf p (seed + k) steps (run_at runs k)
-  pub rows : AllZip (IsRow seed runs) (firsts runs) samples
+  pub rows : AllZip (IsTableRow seed runs) (firsts runs) samples

@@ -4,7 +4,7 @@ ghost use Rattle.std.specs.List.{All, AllZip, range_with_len, sum_by};
 ghost use Rattle.il_syntax.specs.WellFormed.{IsWellFormed};
 ghost use Rattle.litmus.specs.Laws.{IsRunOfSeeds};
 ghost use Rattle.litmus.specs.Sampled.{CanBeSampled};
-ghost use Rattle.litmus.specs.Table.{IsRunOf, IsTable};
+ghost use Rattle.litmus.specs.Table.{IsRunOf, IsOutcomeTable};
 
 use crate::run::{SampledRun, sampled};
 use crate::table::{Samples, table};
@@ -70,7 +70,7 @@ pub fn litmus<M: MessageMemory, R: Threads + Sync>(
     requires few { seeds ≤ 500 }
     requires some_steps { 1 ≤ steps }
     requires few_steps { steps ≤ 100 }
-    ensures table { IfOk result (λ s. IsTable p.now seed seeds steps s) }
+    ensures table { IfOk result (λ s. IsOutcomeTable p.now seed seeds steps s) }
     ensures counts { IfOk result (λ s. sum_by (λ x. x.count) s ≡ seeds) }
     ensures runs { IfOk result (λ s. All (IsRunOfSeeds p.now seed seeds steps) s) }
 {

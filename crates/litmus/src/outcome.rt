@@ -22,9 +22,9 @@ pub struct RunOutcome {
 }
 
 impl Model for RunOutcome {
-    ghost use Rattle.litmus.specs.Outcome.{Outcome};
+    ghost use Rattle.litmus.specs.Outcome.{EndAndOutputs};
 
-    ghost Value = { Outcome };
+    ghost Value = { EndAndOutputs };
 
     ghost view = { λ o. record { ending = o.ending; outputs = o.outputs.items } };
 }

@@ -1,7 +1,7 @@
 //! The table of the outcomes of some runs.
 ghost use Rattle.std.specs.Prelude.{◌≡◌, ◌<◌, ◌+◌, ◌^◌, length, IfOk};
 ghost use Rattle.std.specs.List.{AllZip, count_by, list_any};
-ghost use Rattle.litmus.specs.Table.{IsRow, firsts, is_first, run_at, same_end};
+ghost use Rattle.litmus.specs.Table.{IsTableRow, firsts, is_first, run_at, same_end};
 
 use crate::outcome::same_outcome;
 use crate::run::SampledRun;
@@ -68,7 +68,7 @@ fn count_at(runs: &[SampledRun], k: usize) -> usize
 fn row(alloc: Global, seed: u64, runs: &[SampledRun], k: usize) -> Result<Sample, AllocError>
     requires there { k < length runs.now }
     requires small { seed + length runs.now < 2 ^ 64 }
-    ensures { IfOk result (λ s. IsRow seed runs.now k s) }
+    ensures { IfOk result (λ s. IsTableRow seed runs.now k s) }
 {
     let run = &runs[k];
     let entries: Vec<Entry> = Vec::from_slice(alloc, run.journal.entries.as_slice())?;
@@ -83,7 +83,7 @@ fn row(alloc: Global, seed: u64, runs: &[SampledRun], k: usize) -> Result<Sample
 /// The table of runs that are those of the seeds from `seed` on.
 pub(crate) fn table(alloc: Global, seed: u64, runs: &[SampledRun]) -> Result<Samples, AllocError>
     requires { seed + length runs.now < 2 ^ 64 }
-    ensures { IfOk result (λ s. AllZip (IsRow seed runs.now) (firsts runs.now) s) }
+    ensures { IfOk result (λ s. AllZip (IsTableRow seed runs.now) (firsts runs.now) s) }
 {
     let mut samples = Vec::new(alloc);
     for k in 0..runs.len() {
