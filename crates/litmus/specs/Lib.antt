@@ -1,0 +1,4 @@
+pub mod Sampled
+pub mod Outcome
+pub mod Table
+pub mod Laws
