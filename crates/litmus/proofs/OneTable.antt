@@ -8,7 +8,7 @@ use Rattle.chooser.specs.Draws.{generators, drawn_by, after_draw_by}
 use Rattle.walker.proofs.Callers.{determined}
 use Rattle.litmus.specs.Outcome.{EndAndOutputs, outcome_in}
 use Rattle.litmus.specs.Sampled.{IsSampled, drawn_order}
-use Rattle.litmus.specs.Table.{Run, IsTableRow, IsRunOf, IsOutcomeTable, firsts, absent_run, run_at}
+use Rattle.litmus.specs.Table.{Run, IsTableRow, IsSeedRun, IsOutcomeTable, firsts, absent_run, run_at}
 use Rattle.litmus.specs.declared.table.Sample.{Sample}
 use Rattle.litmus.proofs.DrawnRuns.{drawn_chosen}
 
@@ -17,7 +17,7 @@ one_run p seed steps one other x y =
     determined drawn_by after_draw_by p (drawn_order seed (length p.threads)) steps (generators seed (length p.threads)) one other x.run x.complete x.turns (drawn_chosen p one seed x.run x.drawn)
     y.run y.complete y.turns (drawn_chosen p other seed y.run y.drawn)
 
-same_run : (p : Program) (seed steps : ℕ) (a b : Run) → IsRunOf p seed steps a → IsRunOf p seed steps b → a ≡ b
+same_run : (p : Program) (seed steps : ℕ) (a b : Run) → IsSeedRun p seed steps a → IsSeedRun p seed steps b → a ≡ b
 same_run p seed steps a b x y =
     let journal = one_run p seed steps a.journal b.journal x.sampled y.sampled in
     let outcome : a.outcome ≡ b.outcome = x.outcome ∙ ap (λ (j : List Entry). outcome_in j (length p.threads)) journal ∙ sym y.outcome in

@@ -4,7 +4,7 @@ use Rattle.std.specs.List.{AllZip, filter, range_with_len}
 use Rattle.std.proofs.lemmas.List.Elements.{filter-append}
 use Rattle.std.proofs.lemmas.List.{append-nil}
 use Rattle.il_syntax.specs.declared.program.Program.{Program}
-use Rattle.litmus.specs.Table.{Run, IsTableRow, IsRunOf, IsOutcomeTable, is_first, firsts, run_at}
+use Rattle.litmus.specs.Table.{Run, IsTableRow, IsSeedRun, IsOutcomeTable, is_first, firsts, run_at}
 use Rattle.litmus.specs.declared.table.Sample.{Sample}
 
 -- the first runs below run n
@@ -51,27 +51,27 @@ row_added seed runs n samples new s first h row pushed =
     subst (λ (ks : List ℕ). AllZip (IsTableRow seed runs) ks new) (sym (firsts_more runs n ∙ ap (λ (b : Bool). firsts_below runs n ++ cond b (n ∷ []) []) first))
     (subst (AllZip (IsTableRow seed runs) (firsts_below runs n ++ n ∷ [])) (sym pushed) (zip_append (IsTableRow seed runs) (firsts_below runs n) (n ∷ []) samples (s ∷ []) h (row, tt)))
 
-seed_more : (p : Program) (seed n steps : ℕ) (r : Run) (runs : List Run) → IsRunOf p seed steps r → (length runs ≡ n) × ((k : ℕ) → k < n → IsRunOf p (seed + 1 + k) steps (run_at runs k))
-    → (suc (length runs) ≡ suc n) × ((k : ℕ) → k < suc n → IsRunOf p (seed + k) steps (run_at (r ∷ runs) k))
+seed_more : (p : Program) (seed n steps : ℕ) (r : Run) (runs : List Run) → IsSeedRun p seed steps r → (length runs ≡ n) × ((k : ℕ) → k < n → IsSeedRun p (seed + 1 + k) steps (run_at runs k))
+    → (suc (length runs) ≡ suc n) × ((k : ℕ) → k < suc n → IsSeedRun p (seed + k) steps (run_at (r ∷ runs) k))
 seed_more p seed n steps r runs first rest = (ap suc rest.0, go)
   where
-    go : (k : ℕ) → k < suc n → IsRunOf p (seed + k) steps (run_at (r ∷ runs) k)
+    go : (k : ℕ) → k < suc n → IsSeedRun p (seed + k) steps (run_at (r ∷ runs) k)
     go zero lt =
         let place : seed ≡ seed + 0 = omega arith in
-        subst (λ (s : ℕ). IsRunOf p s steps r) place first
+        subst (λ (s : ℕ). IsSeedRun p s steps r) place first
     go (suc k) lt =
         let place : seed + 1 + k ≡ seed + suc k = omega arith in
-        subst (λ (s : ℕ). IsRunOf p s steps (run_at runs k)) place (rest.1 k (omega (arith, lt)))
+        subst (λ (s : ℕ). IsSeedRun p s steps (run_at runs k)) place (rest.1 k (omega (arith, lt)))
 
 -- the runs of the seeds, by number
-pub each_seed : (p : Program) (seed seeds steps : ℕ) (runs : List Run) → AllZip (λ (s : ℕ) (r : Run). IsRunOf p s steps r) (range_with_len seed seeds) runs
-    → (length runs ≡ seeds) × ((k : ℕ) → k < seeds → IsRunOf p (seed + k) steps (run_at runs k))
+pub each_seed : (p : Program) (seed seeds steps : ℕ) (runs : List Run) → AllZip (λ (s : ℕ) (r : Run). IsSeedRun p s steps r) (range_with_len seed seeds) runs
+    → (length runs ≡ seeds) × ((k : ℕ) → k < seeds → IsSeedRun p (seed + k) steps (run_at runs k))
 each_seed p seed zero steps [] h = (refl, λ k lt. absurd (omega (arith, lt)))
 each_seed p seed zero steps (r ∷ runs) h = absurd h
 each_seed p seed (suc n) steps [] h = absurd h
 each_seed p seed (suc n) steps (r ∷ runs) h = seed_more p seed n steps r runs h.0 (each_seed p (seed + 1) n steps runs h.1)
 
-pub table_of : (p : Program) (seed seeds steps : ℕ) (runs : List Run) (samples : List Sample) → AllZip (λ (s : ℕ) (r : Run). IsRunOf p s steps r) (range_with_len seed seeds) runs
+pub table_of : (p : Program) (seed seeds steps : ℕ) (runs : List Run) (samples : List Sample) → AllZip (λ (s : ℕ) (r : Run). IsSeedRun p s steps r) (range_with_len seed seeds) runs
     → AllZip (IsTableRow seed runs) (firsts runs) samples → IsOutcomeTable p seed seeds steps samples
 table_of p seed seeds steps runs samples h rows =
     let each = each_seed p seed seeds steps runs h in

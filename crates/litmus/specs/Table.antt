@@ -41,7 +41,7 @@ pub record IsTableRow (seed : ℕ) (runs : List Run) (k : ℕ) (s : Sample) : Ty
   pub ending : s.ending ≡ (run_at runs k).outcome.ending
 
 -- run k is the run of a seed, with its outcome
-pub record IsRunOf (p : Program) (seed steps : ℕ) (r : Run) : Type 0 where
+pub record IsSeedRun (p : Program) (seed steps : ℕ) (r : Run) : Type 0 where
   pub sampled : IsSampled p seed steps r.journal
   pub outcome : r.outcome ≡ outcome_in r.journal (length p.threads)
 
@@ -50,5 +50,5 @@ pub record IsRunOf (p : Program) (seed steps : ℕ) (r : Run) : Type 0 where
 pub record IsOutcomeTable (p : Program) (seed seeds steps : ℕ) (samples : List Sample) : Type 0 where
   pub runs : List Run
   pub count : length runs ≡ seeds
-  pub each : (k : ℕ) → k < seeds → IsRunOf p (seed + k) steps (run_at runs k)
+  pub each : (k : ℕ) → k < seeds → IsSeedRun p (seed + k) steps (run_at runs k)
   pub rows : AllZip (IsTableRow seed runs) (firsts runs) samples

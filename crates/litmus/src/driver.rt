@@ -4,7 +4,7 @@ ghost use Rattle.std.specs.List.{All, AllZip, range_with_len, sum_by};
 ghost use Rattle.il_syntax.specs.WellFormed.{IsWellFormed};
 ghost use Rattle.litmus.specs.Laws.{IsRunOfSeeds};
 ghost use Rattle.litmus.specs.Sampled.{CanBeSampled};
-ghost use Rattle.litmus.specs.Table.{IsRunOf, IsOutcomeTable};
+ghost use Rattle.litmus.specs.Table.{IsSeedRun, IsOutcomeTable};
 
 use crate::run::{SampledRun, sampled};
 use crate::table::{Samples, table};
@@ -36,7 +36,7 @@ fn runs_of<M: MessageMemory, R: Threads + Sync>(
     steps: u64,
 ) -> Result<Vec<SampledRun>, NoMemory>
     requires { CanBeSampled p.now steps }
-    ensures { IfOk result (λ runs. AllZip (λ seed r. IsRunOf p.now seed steps r) seeds.now runs.items) }
+    ensures { IfOk result (λ runs. AllZip (λ seed r. IsSeedRun p.now seed steps r) seeds.now runs.items) }
 {
     seeds
         .par_iter()
@@ -44,7 +44,7 @@ fn runs_of<M: MessageMemory, R: Threads + Sync>(
         .map(
             |seed: &u64| -> Result<SampledRun, NoMemory>
                 requires { CanBeSampled p.now steps }
-                ensures { IfOk result (λ r. IsRunOf p.entry.now seed.now steps r) }
+                ensures { IfOk result (λ r. IsSeedRun p.entry.now seed.now steps r) }
             { sampled::<M>(alloc, p, *seed, steps) },
         )
         .collect::<Result<Vec<SampledRun>, NoMemory>>(rt, alloc)?

@@ -1,7 +1,7 @@
 //! The run of one seed.
 ghost use Rattle.std.specs.Prelude.{IfOk};
 ghost use Rattle.litmus.specs.Sampled.{CanBeSampled, IsDrawnWalk};
-ghost use Rattle.litmus.specs.Table.{IsRunOf};
+ghost use Rattle.litmus.specs.Table.{IsSeedRun};
 
 use crate::order::drawn_order;
 use crate::outcome::{RunOutcome, outcome_of};
@@ -56,7 +56,7 @@ pub(crate) fn sampled<M: MessageMemory>(
     steps: u64,
 ) -> Result<SampledRun, NoMemory>
     requires { CanBeSampled p.now steps }
-    ensures { IfOk result (λ r. IsRunOf p.now seed steps r) }
+    ensures { IfOk result (λ r. IsSeedRun p.now seed steps r) }
 {
     let threads = p.threads.len() as u32;
     let order = drawn_order(alloc, seed, threads)?;
