@@ -2,4 +2,4 @@ use Rattle.std.proofs.Common.{sym}
 use Rattle.tool.proofs.commands.output_of.Goals as goal
 
 pub returns-in-Seq : goal.returns-in-Seq
-returns-in-Seq g c = rw (c.in-Seq.is, sym c.as_slice.ensures) c.output-in-Seq.ensures
+returns-in-Seq g c = rw (c.in-Seq.is, sym c.as_slice-in-Seq.ensures) c.output-in-Seq.ensures
