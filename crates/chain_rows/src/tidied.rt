@@ -1,4 +1,7 @@
 //! Registers tidied, and what one function says of another: texts, and the first site that is refused.
+ghost use Rattle.std.specs.Prelude.{IfOk, IfSome};
+ghost use Rattle.il_syntax.specs.WellFormed.{IsWellFormed};
+
 use il_parser::{InputFault, parse};
 use il_printer::print;
 use il_syntax::{Program, sites_within};
@@ -161,7 +164,9 @@ thread main();
 ";
 
 /// The program of a text; none where it is refused, or longer than any here.
-fn parsed(alloc: Global, text: &str) -> Result<Option<Program>, NoMemory> {
+fn parsed(alloc: Global, text: &str) -> Result<Option<Program>, NoMemory>
+    ensures { IfOk result (λ found. IfSome found IsWellFormed) }
+{
     let bytes = text.as_bytes();
     if bytes.len() > 4096 {
         return Ok(None);
