@@ -15,7 +15,7 @@ use Rattle.journal_text.specs.Limits.{IsValue}
 use Rattle.journal_text.specs.Line.{value_word}
 use Rattle.journal_text.proofs.Callers.{Decided, or_else, same_fact, some_below, some_value}
 use Rattle.litmus.specs.declared.outcome.Printed.{Printed}
-use Rattle.litmus_text.specs.Expectation.{Expected, FitsExpectation, FitsOutput, expectation_line, expectation_words, kind_word, output_word}
+use Rattle.litmus_text.specs.Expectation.{Expected, FitsExpectation, FitsOutput, expectation_line, expectation_words, expectation_kind, output_word}
 use Rattle.litmus_text.specs.Expectations.{most_expectations, ReadsExpectations, AreExpectationsRefusedAfter}
 use Rattle.litmus_text.proofs.ExpectationSteps.{HasTaken, all_taken, line_of, none_taken, one_taken, refused_with, too_many}
 use Rattle.litmus_text.proofs.ExpectationWords.{cut_words}
@@ -79,7 +79,7 @@ some_expectation : (words : List Text) → Decided (IsExpectationOf words)
 some_expectation [] = inr (λ x. let bad : [] ≡ expectation_words x.0 = x.2 in absurd cc)
 some_expectation (w ∷ ws) = go (some_outputs ws) (same_text w (codes "some")) (same_text w (codes "none"))
   where
-    no_kind : (w ≡ codes "some" → ⊥) → (w ≡ codes "none" → ⊥) → (b : Bool) → w ≡ kind_word b → ⊥
+    no_kind : (w ≡ codes "some" → ⊥) → (w ≡ codes "none" → ⊥) → (b : Bool) → w ≡ expectation_kind b → ⊥
     no_kind a b true is = a is
     no_kind a b false is = b is
 
@@ -87,7 +87,7 @@ some_expectation (w ∷ ws) = go (some_outputs ws) (same_text w (codes "some")) 
     go (inr none) a b = inr (λ x. let rest : ws ≡ map output_word x.0.outputs = let words : w ∷ ws ≡ expectation_words x.0 = x.2 in cc in none (x.0.outputs, x.1, rest))
     go (inl y) (inl a) b = inl (record { some = true; outputs = y.0 }, y.1, ap₂ (λ (v : Text) (vs : List Text). v ∷ vs) a y.2)
     go (inl y) (inr a) (inl b) = inl (record { some = false; outputs = y.0 }, y.1, ap₂ (λ (v : Text) (vs : List Text). v ∷ vs) b y.2)
-    go (inl y) (inr a) (inr b) = inr (λ x. let first : w ≡ kind_word x.0.some = let words : w ∷ ws ≡ expectation_words x.0 = x.2 in cc in no_kind a b x.0.some first)
+    go (inl y) (inr a) (inr b) = inr (λ x. let first : w ≡ expectation_kind x.0.some = let words : w ∷ ws ≡ expectation_words x.0 = x.2 in cc in no_kind a b x.0.some first)
 
 abbrev IsLineOf : Text → Type 0
 IsLineOf line = (e : Expected) × FitsExpectation e × (line ≡ expectation_line e)

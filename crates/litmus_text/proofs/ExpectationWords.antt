@@ -20,7 +20,7 @@ use Rattle.journal_text.specs.Limits.{Has64Bits, IsValue}
 use Rattle.journal_text.specs.Line.{value_word}
 use Rattle.journal_text.proofs.Callers.{all_first, apart, are_visible, decimal_visible, plain_ascii, plain_clean, same_value, splits, value_visible, words_plain}
 use Rattle.litmus.specs.declared.outcome.Printed.{Printed}
-use Rattle.litmus_text.specs.Expectation.{Expected, FitsExpectation, FitsOutput, expectation_line, expectation_words, kind_word, output_word}
+use Rattle.litmus_text.specs.Expectation.{Expected, FitsExpectation, FitsOutput, expectation_line, expectation_words, expectation_kind, output_word}
 
 -- bytes
 
@@ -35,18 +35,18 @@ outputs_visible [] h = refl
 outputs_visible (o ∷ os) h =
     and_from (are_visible (output_word o)) (list_all are_visible (map output_word os)) (output_visible o (All-head FitsOutput o os h)) (outputs_visible os (All-tail FitsOutput o os h))
 
-kind_visible : (b : Bool) → are_visible (kind_word b) ≡ true
+kind_visible : (b : Bool) → are_visible (expectation_kind b) ≡ true
 kind_visible true = refl
 kind_visible false = refl
 
 words_visible : (e : Expected) → FitsExpectation e → list_all are_visible (expectation_words e) ≡ true
-words_visible e f = and_from (are_visible (kind_word e.some)) (list_all are_visible (map output_word e.outputs)) (kind_visible e.some) (outputs_visible e.outputs f)
+words_visible e f = and_from (are_visible (expectation_kind e.some)) (list_all are_visible (map output_word e.outputs)) (kind_visible e.some) (outputs_visible e.outputs f)
 
 pub clean_line : (e : Expected) → FitsExpectation e → has_no_newline (expectation_line e) ≡ true
 clean_line e f = plain_clean (expectation_line e) (words_plain (expectation_words e) (words_visible e f))
 
 -- a line isn't empty
-kind_long : (b : Bool) (ws : List Text) → 1 ≤ length (join_with_byte 32 (kind_word b ∷ ws))
+kind_long : (b : Bool) (ws : List Text) → 1 ≤ length (join_with_byte 32 (expectation_kind b ∷ ws))
 kind_long true [] = omega arith
 kind_long true (w ∷ ws) = omega arith
 kind_long false [] = omega arith
@@ -139,7 +139,7 @@ same_outputs (o ∷ os) (p ∷ ps) h k same =
     ap₂ (λ (x : Printed) (xs : List Printed). x ∷ xs) (same_output o p (All-head FitsOutput o os h) (All-head FitsOutput p ps k) first)
     (same_outputs os ps (All-tail FitsOutput o os h) (All-tail FitsOutput p ps k) rest)
 
-pub same_kind : (a b : Bool) → kind_word a ≡ kind_word b → a ≡ b
+pub same_kind : (a b : Bool) → expectation_kind a ≡ expectation_kind b → a ≡ b
 same_kind true true e = refl
 same_kind false false e = refl
 same_kind true false e = absurd (apart (codes "some") (codes "none") refl e)
@@ -148,7 +148,7 @@ same_kind false true e = absurd (apart (codes "none") (codes "some") refl e)
 pub same_line_expectation : (e f : Expected) → FitsExpectation e → FitsExpectation f → expectation_line e ≡ expectation_line f → e ≡ f
 same_line_expectation e f h k same =
     let words : expectation_words e ≡ expectation_words f = sym (cut_words (expectation_line e) e h refl) ∙ cut_words (expectation_line e) f k same in
-    let kinds : kind_word e.some ≡ kind_word f.some = cc in
+    let kinds : expectation_kind e.some ≡ expectation_kind f.some = cc in
     let outputs : map output_word e.outputs ≡ map output_word f.outputs = cc in
     let somes = same_kind e.some f.some kinds in
     let all = same_outputs e.outputs f.outputs h k outputs in

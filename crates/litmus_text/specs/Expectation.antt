@@ -11,16 +11,16 @@ pub record Expected : Type 0 where
   pub some : Bool
   pub outputs : List Printed
 
-abbrev pub kind_word : Bool → Text
-kind_word true = codes "some"
-kind_word false = codes "none"
+abbrev pub expectation_kind : Bool → Text
+expectation_kind true = codes "some"
+expectation_kind false = codes "none"
 
 -- the word of an output: its thread and its value
 abbrev pub output_word : Printed → Text
 output_word o = decimal o.thread ++ (58 ∷ signed_decimal o.value)
 
 abbrev pub expectation_words : Expected → List Text
-expectation_words e = kind_word e.some ∷ map output_word e.outputs
+expectation_words e = expectation_kind e.some ∷ map output_word e.outputs
 
 -- the line without its newline
 abbrev pub expectation_line : Expected → Text

@@ -5,7 +5,7 @@ ghost use Rattle.std.specs.List.{All, slice_split};
 ghost use Rattle.journal_text.specs.Kind.{Decodes};
 ghost use Rattle.journal_text.specs.Limits.{Has64Bits};
 ghost use Rattle.litmus.specs.declared.outcome.Printed.{Printed};
-ghost use Rattle.litmus_text.specs.Expectation.{FitsExpectation, FitsOutput, expectation_line, expectation_words, kind_word, output_word};
+ghost use Rattle.litmus_text.specs.Expectation.{FitsExpectation, FitsOutput, expectation_line, expectation_words, expectation_kind, output_word};
 
 use crate::expectation::Expectation;
 use journal_text::{number, value};
@@ -16,7 +16,7 @@ use values_undef::Val;
 
 /// Whether some outcome is expected, by the first word of a line.
 fn kind(word: &str) -> Option<bool>
-    ensures { Decodes kind_word (λ some. Unit {0}) word.now result }
+    ensures { Decodes expectation_kind (λ some. Unit {0}) word.now result }
 {
     match word {
         "some" => Some(true),
@@ -93,7 +93,7 @@ fn outputs(alloc: Global, words: &[&str]) -> Result<Option<Vec<Printed>>, AllocE
 
 /// The expectation of a kind with these words.
 fn of_kind(alloc: Global, some: bool, words: &[&str]) -> Result<Option<Expectation>, AllocError>
-    ensures { IfOk result (λ o. Decodes expectation_words FitsExpectation (kind_word some ∷ map (λ w. w.now) words.now) o) }
+    ensures { IfOk result (λ o. Decodes expectation_words FitsExpectation (expectation_kind some ∷ map (λ w. w.now) words.now) o) }
 {
     match outputs(alloc, words)? {
         Some(outputs) => Ok(Some(Expectation { some, outputs })),
