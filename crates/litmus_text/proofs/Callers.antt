@@ -1,0 +1,3 @@
+-- What proofs of other crates use.
+pub use Rattle.litmus_text.proofs.OneInput.{one_input, input_unrefused, one_refusal}
+pub use Rattle.litmus_text.proofs.EachInput.{each_input}

@@ -1,0 +1,11 @@
+//! Laws about inputs: functions with an empty body, whose contracts are the laws.
+
+ghost use Rattle.litmus_text.specs.Laws.{LitmusInputsReadOrAreRefused, LitmusInputsReadInOneWay, LitmusInputsThatReadAreNotRefused, LitmusInputsHaveOneFirstRefusal};
+
+/// Each input reads in one way, or has one first refusal.
+pub fn litmus_inputs_have_one_answer()
+    ensures some { LitmusInputsReadOrAreRefused }
+    ensures one { LitmusInputsReadInOneWay }
+    ensures apart { LitmusInputsThatReadAreNotRefused }
+    ensures refusal { LitmusInputsHaveOneFirstRefusal }
+{}

@@ -1,0 +1,21 @@
+//! The text of `litmus`: its input, which is a program and, after the line `expect`, expectations of its outcomes; and its output,
+//! the outcomes of a table, and whether each expectation is met.
+//!
+//! `specs/Expectation.antt` has the line of an expectation, `specs/Expectations.antt` what the text of the expectations reads as,
+//! `specs/Reading.antt` what an input reads as, and which refusal of another is the first; `specs/Output.antt` the lines of
+//! the output.
+#![tactic(auto)]
+
+mod expectation;
+mod expectations;
+mod fault;
+mod input;
+pub mod laws;
+mod line;
+mod output;
+
+pub use expectation::Expectation;
+pub use expectations::{ExpectationsFault, MOST_EXPECTATIONS, read_expectations};
+pub use fault::LitmusRule;
+pub use input::{LitmusInput, read_litmus};
+pub use output::{is_met, push_outcome, push_verdict};
