@@ -15,8 +15,8 @@ use Rattle.litmus_text.specs.Expectation.{Expected}
 -- Outcomes.
 
 -- how many seeds have it, and the least of them
-abbrev pub count_line : Sample → Text
-count_line s = join_with_byte 32 (codes "outcome" ∷ (decimal s.count ∷ (decimal s.seed ∷ [])))
+abbrev pub sample_line : Sample → Text
+sample_line s = join_with_byte 32 (codes "outcome" ∷ (decimal s.count ∷ (decimal s.seed ∷ [])))
 
 abbrev pub printed_line : Printed → Text
 printed_line o = join_with_byte 32 (decimal o.thread ∷ (signed_decimal o.value ∷ []))
@@ -33,7 +33,7 @@ titled_entries title p entries = whole_line title ++ entry_lines p entries
 -- program that was given
 abbrev pub outcome_text : Program → Sample → List Printed → List Entry → Text
 outcome_text p s outputs source =
-    whole_line (count_line s) ++ (whole_line (end_line s.ending) ++ (printed_lines outputs
+    whole_line (sample_line s) ++ (whole_line (end_line s.ending) ++ (printed_lines outputs
     ++ (titled_entries (codes "journal") p s.journal ++ titled_entries (codes "source") p source)))
 
 -- Expectations.

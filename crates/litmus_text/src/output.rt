@@ -6,7 +6,7 @@ ghost use Rattle.journal_text.specs.Report.{end_line, entry_lines};
 ghost use Rattle.std.specs.List.{list_any};
 ghost use Rattle.litmus.specs.Outcome.{same_outcome};
 ghost use Rattle.text_parts.specs.Lines.{whole_line};
-ghost use Rattle.litmus_text.specs.Output.{count_line, is_met, outcome_text, printed_line, printed_lines, titled_entries, verdict_line, wanted};
+ghost use Rattle.litmus_text.specs.Output.{sample_line, is_met, outcome_text, printed_line, printed_lines, titled_entries, verdict_line, wanted};
 
 use crate::expectation::Expectation;
 use il_syntax::Program;
@@ -24,7 +24,7 @@ fn push_number(out: &mut Vec<u8>, n: u64) -> Result<(), AllocError>
 }
 
 fn push_counts(out: &mut Vec<u8>, sample: &Sample) -> Result<(), AllocError>
-    ensures { OnOk result (out.new.items ≡ out.old.items ++ whole_line (count_line sample.now)) }
+    ensures { OnOk result (out.new.items ≡ out.old.items ++ whole_line (sample_line sample.now)) }
 {
     push(out, b"outcome ")?;
     push_number(out, sample.count)?;
