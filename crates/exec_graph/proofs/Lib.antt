@@ -14,6 +14,7 @@ mod LinkLemmas
 mod StampLemmas
 mod Entering
 mod Reading
+mod Kept
 mod Accesses
 mod RowSteps
 mod RunFacts
