@@ -16,6 +16,7 @@ pub struct Row {
 /// The row of an entry, by the clock after it: of its own thread the entries before it alone stand before
 /// it.
 pub(crate) fn row_of(thread: u32, number: u32, cur: &Times) -> Row
+    requires there { thread < length cur.now }
     requires threads { length cur.now ≤ 16 }
     requires small { (i : ℕ) → slice_index cur.now i < 2 ^ 32 }
     ensures thread { result.thread ≡ thread }
@@ -24,8 +25,9 @@ pub(crate) fn row_of(thread: u32, number: u32, cur: &Times) -> Row
 {
     let mut counts = [0; MOST_THREADS];
     for i in 0..cur.len() {
-        counts[i] = count_of(i as u32, thread, number, cur);
+        counts[i] = count_of(i as u32, cur);
     }
+    counts[thread as usize] = number;
     Row {
         thread,
         number,
@@ -34,14 +36,10 @@ pub(crate) fn row_of(thread: u32, number: u32, cur: &Times) -> Row
 }
 
 /// The count of thread `i`.
-fn count_of(i: u32, thread: u32, number: u32, cur: &Times) -> u32
+fn count_of(i: u32, cur: &Times) -> u32
     requires there { i < length cur.now }
     requires small { (j : ℕ) → slice_index cur.now j < 2 ^ 32 }
-    ensures { result ≡ if i == thread then number else slice_index cur.now i }
+    ensures { result ≡ slice_index cur.now i }
 {
-    if i == thread {
-        number
-    } else {
-        cur.at(i) as u32
-    }
+    cur.at(i) as u32
 }
