@@ -32,6 +32,6 @@ message_in kept None = None
 message_in kept (Some stamp) = kept stamp
 
 -- what is kept of a message after an entry that wrote one, or did not
-abbrev pub with_message : Option Handed → Handed → Stamp → Option Stamp → Option Handed
-with_message before message stamp None = before
-with_message before message stamp (Some written) = if is_at (stamp_cmp written) stamp then Some message else before
+abbrev pub with_handed : Option Handed → Handed → Stamp → Option Stamp → Option Handed
+with_handed before message stamp None = before
+with_handed before message stamp (Some written) = if is_at (stamp_cmp written) stamp then Some message else before
