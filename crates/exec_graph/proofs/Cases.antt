@@ -14,7 +14,7 @@ use Rattle.views.specs.ThreadView.{ThreadView, fenced}
 use Rattle.views.proofs.Callers.{get_or-raised_same}
 use Rattle.message_memory.specs.declared.history.Call.{Call}
 use Rattle.message_memory.specs.declared.message.Message.{Message as TheMessage}
-use Rattle.message_memory.specs.Memory.{Memory, Messages, messages, view_index, message_at, inserted, is_free, with_handed, IsClosed, IsClosedView}
+use Rattle.message_memory.specs.Memory.{Memory, Messages, messages, view_index, message_at, inserted, is_free, with_message, IsClosed, IsClosedView}
 use Rattle.message_memory.specs.Step.{acquires_by, releases_by, read_at, view_after_read}
 use Rattle.message_memory.proofs.Callers.{all_inserted, all_found, parts_ordered}
 use Rattle.exec_graph.specs.Entries.{thread_at, access_at, event_at, Stamp, read_by, written_by, is_fence}
@@ -181,26 +181,26 @@ pub message_step : (calls : List Call) (n : ℕ) (m : Memory) (v : ThreadView) (
     → is_free message.from message.to (messages m y) ≡ true
     → interval_by (event_at calls n) ≡ Some (record { location = y; from = message.from; to = message.to }) → written_by (event_at calls n) ≡ Some (stamp_of y message.to) → na_written (event_at calls n) ≡ None
     → AgreesIn calls (length m.na) (suc n) (Gives calls n) message.times → get_or message.times (length m.na + y) 0 ≤ message.to
-    → KnowsMemory calls (length m.na) (suc n) (with_handed m y message)
+    → KnowsMemory calls (length m.na) (suc n) (with_message m y message)
 message_step calls n m v y message b l short free iv wr w agrees own = record {
-  messages = λ z. elim (cases_eq z y) as (λ _. AllByRecursion (Fits calls (length m.na) (suc n) z) (messages (with_handed m y message) z)) [
-    | inl e ↦ subst (λ (k : ℕ). AllByRecursion (Fits calls (length m.na) (suc n) k) (messages (with_handed m y message) k)) (sym e)
+  messages = λ z. elim (cases_eq z y) as (λ _. AllByRecursion (Fits calls (length m.na) (suc n) z) (messages (with_message m y message) z)) [
+    | inl e ↦ subst (λ (k : ℕ). AllByRecursion (Fits calls (length m.na) (suc n) k) (messages (with_message m y message) k)) (sym e)
         (subst (AllByRecursion (Fits calls (length m.na) (suc n) y)) (sym here) (all_inserted (Fits calls (length m.na) (suc n) y) message (messages m y) mine olds))
     | inr ne ↦ subst (AllByRecursion (Fits calls (length m.na) (suc n) z)) (sym (get_or-set_other m.atomic y z (inserted message (messages m y)) [] ne)) (apart_from z ne)
   ];
-  there = λ k i below q. elim (older k n below) as (λ _. IsSomeAnd (message_at i.to (messages (with_handed m y message) i.location)) (λ x. x.from ≡ i.from)) [
-    | inl old ↦ elim (cases_eq i.location y) as (λ _. IsSomeAnd (message_at i.to (messages (with_handed m y message) i.location)) (λ x. x.from ≡ i.from)) [
+  there = λ k i below q. elim (older k n below) as (λ _. IsSomeAnd (message_at i.to (messages (with_message m y message) i.location)) (λ x. x.from ≡ i.from)) [
+    | inl old ↦ elim (cases_eq i.location y) as (λ _. IsSomeAnd (message_at i.to (messages (with_message m y message) i.location)) (λ x. x.from ≡ i.from)) [
       | inl e ↦ still i e (b.memory.there k i old q)
       | inr ne ↦ subst (λ (h : Messages). IsSomeAnd (message_at i.to h) (λ x. x.from ≡ i.from)) (sym (get_or-set_other m.atomic y i.location (inserted message (messages m y)) [] ne)) (b.memory.there k i old q)
     ]
-    | inr s ↦ subst (λ (x : Interval). IsSomeAnd (message_at x.to (messages (with_handed m y message) x.location)) (λ r. r.from ≡ x.from))
+    | inr s ↦ subst (λ (x : Interval). IsSomeAnd (message_at x.to (messages (with_message m y message) x.location)) (λ r. r.from ≡ x.from))
         (same_Some (record { location = y; from = message.from; to = message.to }) i (sym iv ∙ ap (λ (x : ℕ). interval_by (event_at calls x)) (sym s) ∙ q)) found_new
   ];
   versions = quiet_versions calls (length m.na) n m w b.memory.versions;
   last = more_last calls (length m.na) n m b.memory.last;
 }
   where
-    here : messages (with_handed m y message) y ≡ inserted message (messages m y)
+    here : messages (with_message m y message) y ≡ inserted message (messages m y)
     here = get_or-set_same m.atomic y (inserted message (messages m y)) [] l
 
     apart : AllByRecursion (λ k. k.to ≡ message.to → ⊥) (messages m y)
@@ -236,14 +236,14 @@ message_step calls n m v y message b l short free iv wr w agrees own = record {
     apart_from z ne = all_both (Fits calls (length m.na) n z) (λ k. IsClosed m k.times) (Fits calls (length m.na) (suc n) z) (messages m z)
         (λ k fits closed. fits_with z k (λ e. absurd (ne e)) closed fits) (b.memory.messages z) (closed_at m z b.well_formed)
 
-    found_new : IsSomeAnd (message_at message.to (messages (with_handed m y message) y)) (λ r. r.from ≡ message.from)
+    found_new : IsSomeAnd (message_at message.to (messages (with_message m y message) y)) (λ r. r.from ≡ message.from)
     found_new = subst (λ (h : Messages). IsSomeAnd (message_at message.to h) (λ r. r.from ≡ message.from)) (sym here)
         (subst (λ (o : Option TheMessage). IsSomeAnd o (λ r. r.from ≡ message.from)) (sym (new_found message (messages m y) apart)) refl)
 
-    still : (i : Interval) → i.location ≡ y → IsSomeAnd (message_at i.to (messages m i.location)) (λ x. x.from ≡ i.from) → IsSomeAnd (message_at i.to (messages (with_handed m y message) i.location)) (λ x. x.from ≡ i.from)
+    still : (i : Interval) → i.location ≡ y → IsSomeAnd (message_at i.to (messages m i.location)) (λ x. x.from ≡ i.from) → IsSomeAnd (message_at i.to (messages (with_message m y message) i.location)) (λ x. x.from ≡ i.from)
     still i e h =
         let at_y : IsSomeAnd (message_at i.to (messages m y)) (λ x. x.from ≡ i.from) = subst (λ (z : ℕ). IsSomeAnd (message_at i.to (messages m z)) (λ x. x.from ≡ i.from)) e h in
         let ne : message.to ≡ i.to → ⊥ = λ s. subst (λ (o : Option TheMessage). IsSomeAnd o (λ x. x.from ≡ i.from)) (ap (λ (t : ℕ). message_at t (messages m y)) (sym s) ∙ unfound message.to (messages m y) apart) at_y in
-        subst (λ (z : ℕ). IsSomeAnd (message_at i.to (messages (with_handed m y message) z)) (λ x. x.from ≡ i.from)) (sym e)
+        subst (λ (z : ℕ). IsSomeAnd (message_at i.to (messages (with_message m y message) z)) (λ x. x.from ≡ i.from)) (sym e)
         (subst (λ (h : Messages). IsSomeAnd (message_at i.to h) (λ x. x.from ≡ i.from)) (sym here)
         (subst (λ (o : Option TheMessage). IsSomeAnd o (λ x. x.from ≡ i.from)) (sym (old_found message (messages m y) i.to ne)) at_y))

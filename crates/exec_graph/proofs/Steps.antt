@@ -21,7 +21,7 @@ use Rattle.views.proofs.Callers.{length-raised, length-joined, get_or-raised_sam
 use Rattle.message_memory.specs.declared.history.Call.{Call}
 use Rattle.message_memory.specs.declared.message.Message.{Message as TheMessage}
 use Rattle.message_memory.specs.declared.message.Versioned.{Versioned}
-use Rattle.message_memory.specs.Memory.{Memory, messages, location_in, view_index, message_at, is_free, with_handed, absent_location, IsClosedView}
+use Rattle.message_memory.specs.Memory.{Memory, messages, location_in, view_index, message_at, is_free, with_message, absent_location, IsClosedView}
 use Rattle.message_memory.specs.Step.{StepResult, step_result, AdmitsChoice, IsProper, acquires_by, releases_by, is_racy, meets_undef, updated, read_at, view_after_read, message_times, write_message, update_message}
 use Rattle.message_memory.proofs.Callers.{some_from_and, parts_ordered}
 use Rattle.exec_graph.specs.Entries.{thread_at, access_at, event_at, read_by, written_by, is_fence, is_acquire_fence, is_release_fence}
@@ -112,7 +112,7 @@ nawrite_step calls n m v x value e b l racy f is = record {
 write_step : (calls : List Call) (n : ℕ) (m : Memory) (v : ThreadView) (y from to : ℕ) (order : Order) (value : Val) (e : Event) → Before calls n m v → y < length m.atomic
     → from < to → get_or v.cur (view_index m y) 0 < to → is_free from to (messages m y) ≡ true
     → event_at calls n ≡ event.Write y order value from to → is_fence (access_at calls n) ≡ false → releases_by (access_at calls n) ≡ releases order
-    → Stepped calls (length m.na) n (record { event = e; memory = with_handed m y (write_message m v y order value from to); view = raised_view v (view_index m y) to })
+    → Stepped calls (length m.na) n (record { event = e; memory = with_message m y (write_message m v y order value from to); view = raised_view v (view_index m y) to })
 write_step calls n m v y from to order value e b l short above free is f q = record {
   view = view;
   memory = message_step calls n m v y (write_message m v y order value from to) b l short free (ap interval_by is) (ap written_by is) (ap na_written is) agrees own;
@@ -155,7 +155,7 @@ update_step : (calls : List Call) (n : ℕ) (m : Memory) (v : ThreadView) (y rea
     → get_or v.cur (view_index m y) 0 ≤ read → read < to → is_free read to (messages m y) ≡ true → IsSome (message_at read (messages m y))
     → event_at calls n ≡ event.Update y order (read_at m y read).value (updated kind (read_at m y read).value) read to
     → is_fence (access_at calls n) ≡ false → releases_by (access_at calls n) ≡ releases order → acquires_by (access_at calls n) ≡ acquires order
-    → Stepped calls (length m.na) n (record { event = e; memory = with_handed m y (update_message m v y order kind (read_at m y read) read to); view = view_after_read m v y order to (read_at m y read) })
+    → Stepped calls (length m.na) n (record { event = e; memory = with_message m y (update_message m v y order kind (read_at m y read) read to); view = view_after_read m v y order to (read_at m y read) })
 update_step calls n m v y read to order kind e b l above short free some is f q g = record {
   view = view;
   memory = message_step calls n m v y (update_message m v y order kind (read_at m y read) read to) b l short free (ap interval_by is) (ap written_by is) (ap na_written is) agrees own;
