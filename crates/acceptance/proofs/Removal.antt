@@ -23,11 +23,11 @@ use Rattle.validator.specs.declared.fault.Fault.TheVariants.{V1, V2, V3, V4, V5,
 use Rattle.validator.specs.Walk.{role_at, role_of}
 use Rattle.validator.specs.Merged.{restored_leaf}
 use Rattle.validator.specs.Faults.{FaultAt, Accepts}
-use Rattle.validator.proofs.Callers.{visited_head, same_turned, same_removed, removed_inserted}
+use Rattle.validator.proofs.Callers.{visited_head, same_turned, same_removed, removed_inserted, same_inserted}
 use Rattle.acceptance.specs.Known.{AreDead}
 use Rattle.acceptance.specs.Laws.{DeadStoresAreAccepted, UndeadIsAccepted}
 use Rattle.acceptance.proofs.Heads.{role_self}
-use Rattle.acceptance.proofs.Roles.{same_inserted, removed_turned, removed_is, Turning, role_by, means, back, each_role}
+use Rattle.acceptance.proofs.Roles.{removed_turned, removed_is, Turning, role_by, means, back, each_role}
 use Rattle.acceptance.proofs.Pending.{pending_is_overwritten}
 use Rattle.acceptance.proofs.Changed.{parts_of, found, none_stray, changed_accepted}
 use Rattle.il_paths.proofs.Callers.{site_within}

@@ -28,10 +28,6 @@ is_inserted : Role → Bool
 is_inserted Inserted = true
 is_inserted _ = false
 
-pub same_inserted : Same ≡ Inserted → ⊥
-unfolding is_inserted
-same_inserted e = false≢true (ap is_inserted e)
-
 pub turned_removed : (y : ℕ) (b : Atom) (x : ℕ) (a : Atom) → Turned y b ≡ Removed x a → ⊥
 unfolding is_removed
 turned_removed y b x a e = false≢true (ap is_removed e)

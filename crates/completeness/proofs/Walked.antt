@@ -10,8 +10,7 @@ use Rattle.il_paths.specs.Code.{Visit, Code, End, Plain, Branch, Loop, placed, A
 use Rattle.il_paths.specs.Atoms.{atoms_equal}
 use Rattle.il_paths.proofs.Callers.{atoms_equal-refl}
 use Rattle.rewriting.specs.Heads.{same_head}
-use Rattle.rewriting.specs.Kinds.{unchanged}
-use Rattle.rewriting.proofs.Callers.{both, self, same_head-refl, each_rewritten, sites_stay}
+use Rattle.rewriting.proofs.Callers.{both, self, same_head-refl, sites_stay}
 use Rattle.validator.specs.declared.role.Role.{Role}
 use Rattle.validator.specs.declared.role.Role.TheVariants.{Same, Turned, Removed, Inserted}
 use Rattle.validator.specs.declared.walk.NewRegisters.{NewRegisters}
@@ -21,6 +20,7 @@ use Rattle.validator.specs.Merged.{restored_skip, restored_copy, restored_leaf, 
 use Rattle.validator.specs.Beside.{StartsLoop, visit, Beside, both_end, same, turned, removed, inserted, branch, loop}
 use Rattle.completeness.proofs.Placed.{placed_end, IsPlain, placed_plain, IsBranch, placed_branch, IsLoop, placed_loop}
 use Rattle.completeness.proofs.Parts.{parts_of}
+use Rattle.validator.proofs.Callers.{same_kept}
 
 -- what a statement's head is, put back
 abbrev back : Role → Head → Head
@@ -42,11 +42,6 @@ head_back role (Print a) = refl
 head_back role (If a y z) = absurd y
 head_back role (While a d) = absurd d
 head_back role (Call r function args) = refl
-
-back_same : (leaf : Leaf) → head_of_leaf (restored_leaf Same leaf) ≡ head_of_leaf leaf
-back_same =
-    each_rewritten (λ leaf new. head_of_leaf new ≡ head_of_leaf leaf) (record unchanged { skip = restored_skip Same; copy = restored_copy Same })
-    (record { skip = refl; copy = λ r a. refl; compute = λ r op a b. refl; load = λ r x. refl; store = λ x a. refl; other = λ leaf. refl })
 
 -- the roles that the walk gives
 
@@ -233,7 +228,7 @@ module _ (new : NewRegisters) (role : ℕ → Role) where
   goes both_end s t m k n es et em o = back_of s Empty t Empty m Empty n (placed_end k s es) (placed_end n t et) (placed_end n m em) (end_back n)
   goes (same {u = u} {v = v} {w = w} at heads is more) s t m k n es et em o =
       plain_goes Same at (λ h e. ap (is_inserted new) (e ∙ sym heads) ∙ not_inserted new u.head o.0.0) (role_same u.head v.head heads)
-      (λ h e. ap (λ (x : Visit). x.head) is ∙ sym e ∙ sym (back_same h)) (goes more) s t m k n es et em o
+      (λ h e. ap (λ (x : Visit). x.head) is ∙ sym e ∙ sym (same_kept h)) (goes more) s t m k n es et em o
   goes (turned {u = u} {v = v} {w = w} r x a at uh vh is more) s t m k n es et em o =
       plain_goes (Turned x a) at (λ h e. ap (is_inserted new) (e ∙ vh)) ((λ i. role_of (uh i) (vh i)) ∙ role_turned r x a)
       (λ h e. ap (λ (y : Visit). y.head) is ∙ sym (head_back (Turned x a) h ∙ ap (back (Turned x a)) (e ∙ vh))) (goes more) s t m k n es et em o

@@ -32,20 +32,20 @@ passing x head later p = λ i. cond (p.0 i) true (cond (p.1 i) false later)
 storing : (x : ℕ) (head : Head) (later : Bool) → stores_to x head ≡ true → overwritten_change x head later ≡ true
 storing x head later e = ap (λ b. cond b true (cond (needs x head) false later)) e
 
-step_monotone : (x : ℕ) → IsMonotone must_rank (overwritten_step x)
+pub step_monotone : (x : ℕ) → IsMonotone must_rank (overwritten_step x)
 step_monotone x v a b h =
     ⊎_elim (λ p. let e = ap must_rank (passing x v.head a p) in let f = ap must_rank (passing x v.head b p) in omega arith)
     (⊎_elim (λ s. let e = ap must_rank (storing x v.head a s) in let f = ap must_rank (storing x v.head b s) in omega arith) (λ n. let e = ap must_rank (n a) in let f = ap must_rank (n b) in omega arith))
     (does x v.head)
 
-must_bounded : (a : Bool) → must_rank a ≤ 1
+pub must_bounded : (a : Bool) → must_rank a ≤ 1
 must_bounded true = omega arith
 must_bounded false = omega arith
 
 put_before : (x : ℕ) (v : Visit) (q : List Visit) → passes_by x v.head → IsOverwrittenFirst x q → IsOverwrittenFirst x (v ∷ q)
 put_before x v q f o = record { before = v ∷ o.before; store = o.store; after = o.after; is = ap (λ (p : List Visit). v ∷ p) o.is; stores = o.stores; untouched = (f, o.untouched) }
 
-fold_overwritten : (x : ℕ) (q : List Visit) → fold_backward (overwritten_step x) q false ≡ true → IsOverwrittenFirst x q
+pub fold_overwritten : (x : ℕ) (q : List Visit) → fold_backward (overwritten_step x) q false ≡ true → IsOverwrittenFirst x q
 fold_overwritten x [] e = absurd (false≢true e)
 fold_overwritten x (v ∷ q) e = go (does x v.head) (fold_overwritten x q)
   where
@@ -54,7 +54,7 @@ fold_overwritten x (v ∷ q) e = go (does x v.head) (fold_overwritten x q)
     go (inr (inl s)) more = record { before = []; store = v; after = q; is = refl; stores = s; untouched = tt }
     go (inr (inr n)) more = absurd (false≢true (sym (n (fold_backward (overwritten_step x) q false)) ∙ e))
 
-fold_stored : (x : ℕ) (before : List Visit) (store : Visit) (rest : List Visit) → stores_to x store.head ≡ true → AllPassBy x before → fold_backward (overwritten_step x) (before ++ store ∷ rest) false ≡ true
+pub fold_stored : (x : ℕ) (before : List Visit) (store : Visit) (rest : List Visit) → stores_to x store.head ≡ true → AllPassBy x before → fold_backward (overwritten_step x) (before ++ store ∷ rest) false ≡ true
 fold_stored x [] store rest e u = storing x store.head (fold_backward (overwritten_step x) rest false) e
 fold_stored x (v ∷ before) store rest e u = passing x v.head (fold_backward (overwritten_step x) (before ++ store ∷ rest) false) u.0 ∙ fold_stored x before store rest e u.1
 

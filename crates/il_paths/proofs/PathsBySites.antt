@@ -4,7 +4,7 @@ use Rattle.il_syntax.specs.declared.statement.Block.{Block}
 use Rattle.il_paths.specs.Code.{Visit, code_of_block}
 use Rattle.il_paths.specs.Paths.{IsPath, Before, After, sites_of_path, PathBefore, PathAfter}
 
-sites-append : (p q : List Visit) → sites_of_path (p ++ q) ≡ sites_of_path p ++ sites_of_path q
+pub sites-append : (p q : List Visit) → sites_of_path (p ++ q) ≡ sites_of_path p ++ sites_of_path q
 sites-append [] q = refl
 sites-append (v ∷ p) q = ap (λ xs. v.site ∷ xs) (sites-append p q)
 

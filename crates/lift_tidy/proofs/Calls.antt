@@ -1,18 +1,17 @@
 -- A call begins beside the same call of the source, and its result is the same.
-use Rattle.std.proofs.Common.{◌≡◌, ◌<◌, ◌≤◌, ℕ, pos, ◌+◌, true, List, [], ◌∷◌, length, get_or, set, Option, Some, None, refl, sym, ap, ◌∙◌, subst, arith}
+use Rattle.std.proofs.Common.{◌≡◌, ◌<◌, ◌≤◌, ℕ, pos, ◌+◌, true, List, [], ◌∷◌, length, get_or, set, refl, sym, ap, ◌∙◌, subst, arith}
 use Rattle.std.proofs.lemmas.Bool.{and_parts, false≢true, leb-true, ltb-true}
 use Rattle.std.proofs.lemmas.Bool.Decides.{Decides-int_eq}
-use Rattle.std.proofs.lemmas.List.{length-set, length-replicate, get_or-set_other, get_or-replicate}
+use Rattle.std.proofs.lemmas.List.{length-replicate, get_or-set_other, get_or-replicate}
 use Rattle.values_undef.specs.declared.value.Val.{Val}
 use Rattle.values_undef.specs.declared.value.Val.TheVariants.{Def, Undef}
 use Rattle.il_syntax.specs.declared.statement.Atom.{Atom}
 use Rattle.il_syntax.specs.declared.statement.Atom.TheVariants.{Const, Reg}
-use Rattle.il_syntax.specs.declared.program.Function.{Function}
 use Rattle.il_syntax.specs.declared.program.Program.{Program}
 use Rattle.il_paths.specs.Tree.{tree_of}
 use Rattle.il_paths.specs.Code.{Code, End, placed}
 use Rattle.il_paths.specs.Paths.{IsPath, ends, RunsTo, here}
-use Rattle.thread_core.specs.Programs.{function_at, body_in, code_of}
+use Rattle.thread_core.specs.Programs.{code_of}
 use Rattle.thread_core.specs.Frames.{Frame, blank, loaded, evaluated, called, function_result}
 use Rattle.tidy.specs.Known.{known_at_entry, IsKnownAtEnd}
 use Rattle.tidy.specs.Live.{is_result}
@@ -22,13 +21,7 @@ use Rattle.tidy.proofs.Callers.{placed_beside, known_at_end}
 use Rattle.lift_tidy.specs.Functions.{TidiedFunction}
 use Rattle.lift_tidy.specs.Frames.{FramesTidied}
 use Rattle.lift_tidy.proofs.Atoms.{stands}
-
-code_is : (p : Program) (k : ℕ) (f : Function) → function_at p k ≡ Some f → code_of p k ≡ placed 0 (tree_of f.body)
-code_is p k f e = ap (λ (o : Option Function). placed 0 (body_in o)) e
-
-length-loaded : (from : ℕ) (vs rs : List Val) → length (loaded from vs rs) ≡ length rs
-length-loaded from [] rs = refl
-length-loaded from (v ∷ vs) rs = length-loaded (from + 1) vs (set rs from v) ∙ length-set rs from v
+use Rattle.thread_core.proofs.Callers.{length-loaded, code_is, result_is}
 
 -- registers behind the arguments stay
 loaded_behind : (from : ℕ) (vs rs : List Val) (r : ℕ) → from + length vs ≤ r → get_or (loaded from vs rs) r Undef ≡ get_or rs r Undef
@@ -66,10 +59,6 @@ module _ {source target : Program} (k : ℕ) (f : TidiedFunction source target k
         known = zero_there;
         live = λ r q is w. refl;
       }
-
-result_is : (p : Program) (k : ℕ) (f : Function) (frame : Frame) → frame.function ≡ k → function_at p k ≡ Some f → function_result p frame ≡ evaluated frame.registers f.result
-result_is p k f frame e there =
-    ap (λ (o : Option Function). elim o as (λ _. Val) [ Some g ↦ evaluated frame.registers g.result | None ↦ Undef ]) (ap (function_at p) e ∙ there)
 
 -- at the end both have one result
 pub one_result : {source target : Program} {t s : Frame} (h : FramesTidied source target t s) → s.continuation ≡ End → t.continuation ≡ End → function_result target t ≡ function_result source s

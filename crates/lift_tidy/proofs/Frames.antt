@@ -1,6 +1,6 @@
 -- A call after a statement, on both sides.
 use Rattle.std.proofs.Common.{◌≡◌, ◌<◌, ℕ, Bool, true, false, ◌&&◌, not, List, [], ◌∷◌, ◌++◌, length, get_or, set, Option, Some, None, refl, sym, ap, ◌∙◌, subst, ◌⊎◌, inl, inr, ⊎_elim, arith}
-use Rattle.std.proofs.lemmas.Bool.{or_cases, or_parts, and_parts, both_ways, false≢true, eq-eqb, cases_eq}
+use Rattle.std.proofs.lemmas.Bool.{or_cases, or_parts, and_parts, both_ways, eq-eqb, cases_eq, not-true}
 use Rattle.std.proofs.lemmas.Option.{none-some, same_Some}
 use Rattle.std.proofs.lemmas.List.{length-set, get_or-set_same}
 use Rattle.values_undef.specs.declared.value.Val.{Val}
@@ -72,10 +72,6 @@ untouched r a (Some j) e =
       right = λ k f g. both_ways _ (parts.1) (subst (λ (b : Atom). atoms_equal b (Reg j) ≡ true) (ap Reg (same_Some j k f) ∙ sym g) (atoms_equal-refl (Reg j)));
     }
 
-not_false : (b : Bool) → not b ≡ true → b ≡ false
-not_false true e = absurd (false≢true e)
-not_false false e = refl
-
 -- ---- the call
 
 module _ {source target : Program} {t s : Frame} (h : FramesTidied source target t s) (u v : Visit) (next_s : first s.continuation ≡ Some u) (next_t : first t.continuation ≡ Some v)
@@ -93,7 +89,7 @@ module _ {source target : Program} {t s : Frame} (h : FramesTidied source target
       ⊎_elim (λ (m : makes r a u.head ≡ true). made r a m)
       (λ (k : (not (touches r a (gives u.head)) && known_after h.function.old r a h.source_path) ≡ true).
       let parts = and_parts _ _ k in
-      let free = untouched r a (gives u.head) (not_false _ parts.0) in
+      let free = untouched r a (gives u.head) (not-true _ parts.0) in
       others (Reg r) free.left ∙ h.known r a parts.1 ∙ sym (others a free.right))
       (or_cases _ _ (sym (known_more h.function.old r a h.source_path u) ∙ e))
 

@@ -1,6 +1,5 @@
 -- Each step of the target is answered by the source.
-use Rattle.std.proofs.Common.{◌≡◌, ℕ, ◌+◌, ◌<◌, Bool, true, false, cond, List, [], ◌∷◌, length, get_or, set, Option, Some, None, refl, sym, ap, ◌∙◌, subst, arith, inl, inr, ⊎_elim}
-use Rattle.std.specs.Prelude.{◌||◌}
+use Rattle.std.proofs.Common.{◌≡◌, ℕ, ◌+◌, ◌<◌, Bool, true, false, List, [], ◌∷◌, length, get_or, set, Option, Some, None, refl, sym, ap, ◌∙◌, subst, arith, inl, inr, ⊎_elim}
 use Rattle.std.specs.Option.{option_map_or}
 use Rattle.std.proofs.lemmas.Bool.{cases_Bool, cases_eq, false≢true, true≢false, cond_both}
 use Rattle.std.proofs.lemmas.Option.{none-some}
@@ -27,7 +26,7 @@ use Rattle.thread_core.specs.declared.next.Next.TheVariants as next
 use Rattle.thread_core.specs.Asking.{asked, loaded_by, loaded_location, ends_by}
 use Rattle.thread_core.specs.Steps.{IsProperStack}
 use Rattle.thread_core.specs.Frames.{Frame, Stack, next_after, ended, advanced, resumed, given_by}
-use Rattle.thread_core.proofs.Callers.{asks_by_head}
+use Rattle.thread_core.proofs.Callers.{asks_by_head, asked_same, goes_past}
 use Rattle.view_machine.specs.declared.stepped.Stepped.{Stepped}
 use Rattle.view_machine.specs.declared.stepped.Stepped.TheVariants as stepped
 use Rattle.view_machine.specs.State.{State, local_in, view_in, next_in, idle, IsRunning, IsStep, Allows, local_after_event, step_by, after_step, IsSpendable, after_spend}
@@ -50,9 +49,6 @@ is_silent (next.Access a) = false
 
 asks_not_silent : (a : Access) → next.Access a ≡ next.Silent → ⊥
 asks_not_silent a e = false≢true (ap is_silent e)
-
-asked_same : (a b : Access) → next.Access a ≡ next.Access b → a ≡ b
-asked_same a b e = ap asked e
 
 abbrev is_end : Access → Bool
 is_end (access.NaRead x) = false
@@ -106,10 +102,6 @@ did (stepped.Did e) = true
 abbrev event_done : Stepped → Event
 event_done stepped.Silent = event.Spend
 event_done (stepped.Did e) = e
-
--- a thread that has its event goes on
-goes_past : (l : Stack) (e : Event) → is_failure e ≡ false → ends_thread e ≡ false → local_after_event l e ≡ resumed l e
-goes_past l e f g = ap (λ (b : Bool). cond (b || ends_thread e) l (resumed l e)) f ∙ ap (λ (b : Bool). cond b l (resumed l e)) g
 
 set_related : (source target : Program) (xs ys : List Stack) (i : ℕ) (lt ls : Stack) → i < length xs → length xs ≡ length ys → ((j : ℕ) → j < length xs → StacksTidied source target (get_or xs j idle) (get_or ys j idle)) → StacksTidied source target lt ls
     → (j : ℕ) → j < length (set xs i lt) → StacksTidied source target (get_or (set xs i lt) j idle) (get_or (set ys i ls) j idle)

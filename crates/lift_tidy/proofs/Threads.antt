@@ -1,6 +1,6 @@
 -- Threads side by side go on side by side.
-use Rattle.std.proofs.Common.{◌≡◌, ◌<◌, ℕ, ℤ, ◌+◌, Bool, true, false, cond, not, nat_lt, List, [], ◌∷◌, length, map, Option, Some, None, refl, sym, ap, ◌∙◌, subst, arith, ◌⊎◌, inl, inr, ⊎_elim}
-use Rattle.std.proofs.lemmas.Bool.{false≢true, and_parts, eqb-true, eq-eqb, both_ways}
+use Rattle.std.proofs.Common.{◌≡◌, ◌<◌, ℕ, ℤ, ◌+◌, Bool, true, false, cond, nat_lt, List, [], ◌∷◌, length, map, Option, Some, None, refl, sym, ap, ◌∙◌, subst, arith, ◌⊎◌, inl, inr, ⊎_elim}
+use Rattle.std.proofs.lemmas.Bool.{false≢true, and_parts, eqb-true, eq-eqb, both_ways, not-true}
 use Rattle.std.proofs.lemmas.Option.{none-some, same_Some}
 use Rattle.std.proofs.lemmas.List.{length-map}
 use Rattle.std.specs.List.{AllZip, AllByRecursion}
@@ -36,7 +36,7 @@ use Rattle.tidy.specs.Known.{makes, IsKnown}
 use Rattle.tidy.specs.Live.{IsLive}
 use Rattle.tidy.specs.Accepts.{StandsFor, StatementAccepted, same_but_atoms, is_folded, is_left, assigned_register}
 use Rattle.tidy.specs.SameSites.{SameSites}
-use Rattle.tidy.proofs.Callers.{reads_put, gives_put, AtHead, at_end, at_visits, at_head, head_next, no_head, ends_code, next_accepted, known_here, unwanted_here}
+use Rattle.tidy.proofs.Callers.{reads_put, gives_put, AtHead, at_end, at_visits, at_head, head_next, no_head, ends_code, next_accepted, known_here, unwanted_here, assigned_gives}
 use Rattle.lift_tidy.specs.Functions.{TidiedFunction, AllTidied}
 use Rattle.lift_tidy.specs.Frames.{FramesTidied}
 use Rattle.lift_tidy.specs.Stacks.{StacksTidied, GivesWhatIsRead, TidiedGoOn, both_silent, both_finish, both_ask, both_fail, source_reads, source_fails}
@@ -44,6 +44,7 @@ use Rattle.lift_tidy.specs.Laws.{TidiedThreadsGoOn}
 use Rattle.lift_tidy.proofs.Atoms.{HasValueOf, stands, all_stand, first_value, second_value, all_values, next_same}
 use Rattle.lift_tidy.proofs.Frames.{KeepsOthers, put, put_others, length-put, put_at, read_agrees, after, both_put}
 use Rattle.lift_tidy.proofs.Calls.{begins, one_result}
+use Rattle.thread_core.proofs.Callers.{same_lengths}
 
 -- ---- small words
 
@@ -70,26 +71,6 @@ given_inside p (If a _ _) r q e = absurd (none-some r e)
 given_inside p (While a _) r q e = absurd (none-some r e)
 given_inside p (Call k f args) r q e = let same : k ≡ r = same_Some k r e in omega (arith, q.0, same)
 
--- an assignment that may be left gives its register
-left_gives : (h : Head) (r : ℕ) → assigned_register h ≡ Some r → gives h ≡ Some r
-left_gives Skip r e = absurd (none-some r e)
-left_gives (Copy k a) r e = e
-left_gives (Compute k op a b) r e = e
-left_gives (Load k x) r e = e
-left_gives (Store x a) r e = absurd (none-some r e)
-left_gives (AtomicLoad k order y) r e = absurd (none-some r e)
-left_gives (AtomicStore order y a) r e = absurd (none-some r e)
-left_gives (Update k order y kind) r e = absurd (none-some r e)
-left_gives (Fence order) r e = absurd (none-some r e)
-left_gives (Print a) r e = absurd (none-some r e)
-left_gives (If a _ _) r e = absurd (none-some r e)
-left_gives (While a _) r e = absurd (none-some r e)
-left_gives (Call k f args) r e = absurd (none-some r e)
-
-not_false : (b : Bool) → not b ≡ true → b ≡ false
-not_false true e = absurd (false≢true e)
-not_false false e = refl
-
 -- a copy is known after it
 copied : (registers : List Val) (k : ℕ) (b : Atom) (r : ℕ) (a : Atom) → k < length registers → makes r a (Copy k b) ≡ true
     → evaluated (put registers (Some k) (evaluated registers b)) (Reg r) ≡ evaluated (put registers (Some k) (evaluated registers b)) a
@@ -100,7 +81,7 @@ copied registers k b r a inside m =
     let is : a ≡ b = atoms_equal-true a b inner.0 in
     put_at registers (Some k) (evaluated registers b) r (ap Some same) (omega (arith, inside, same))
     ∙ ap (evaluated registers) (sym is)
-    ∙ sym (put_others registers (Some k) (evaluated registers b) a (λ j e f. both_ways (atoms_equal a (Reg r)) (not_false _ inner.1) (ap (λ (c : Atom). atoms_equal c (Reg r)) (f ∙ ap Reg (sym (same_Some k j e) ∙ same)) ∙ eq-eqb r r refl)))
+    ∙ sym (put_others registers (Some k) (evaluated registers b) a (λ j e f. both_ways (atoms_equal a (Reg r)) (not-true _ inner.1) (ap (λ (c : Atom). atoms_equal c (Reg r)) (f ∙ ap Reg (sym (same_Some k j e) ∙ same)) ∙ eq-eqb r r refl)))
 
 result_cases : (o : Option Val) → ((w : Val) × (o ≡ Some w)) ⊎ (o ≡ None)
 result_cases None = inr refl
@@ -117,12 +98,6 @@ printed_cases Undef = inr refl
 deepened_cases : (b : Bool) → (cond b next.Silent (next.Access (access.Fail cause.Depth)) ≡ next.Silent) ⊎ (cond b next.Silent (next.Access (access.Fail cause.Depth)) ≡ next.Access (access.Fail cause.Depth))
 deepened_cases true = inl refl
 deepened_cases false = inr refl
-
-same_lengths : {A B : Type 0} (R : A → B → Type 0) (xs : List A) (ys : List B) → AllZip R xs ys → length xs ≡ length ys
-same_lengths R [] [] z = refl
-same_lengths R [] (y ∷ ys) z = absurd z
-same_lengths R (x ∷ xs) [] z = absurd z
-same_lengths R (x ∷ xs) (y ∷ ys) z = omega (arith, same_lengths R xs ys z.1)
 
 pub some_of : {A : Type 0} (o : Option A) (P : A → Type 0) → IsSomeAnd o P → (a : A) × (o ≡ Some a) × P a
 some_of None P h = absurd h
@@ -153,7 +128,7 @@ module _ {source target : Program} {t s : Frame} (h : FramesTidied source target
       after h u v next_s next_t beside true t.registers ss h.target_whole whole others made (λ a n. refl) (λ k f. absurd (none-some k (sym (ap gives skips) ∙ f)))
       (λ k q is w n f.
       unwanted_here h.function.old h.function.new h.function.accepted h.source_path h.target_path s.continuation t.continuation u v h.source_run h.target_run next_s next_t site k
-      (subst (λ (i : ℕ). IsLive h.function.new u.site i → ⊥) (same_Some r k (sym (left_gives u.head r e) ∙ f)) dead) true q is w)
+      (subst (λ (i : ℕ). IsLive h.function.new u.site i → ⊥) (same_Some r k (sym (assigned_gives u.head r e) ∙ f)) dead) true q is w)
 
   accepted : StatementAccepted h.function.old h.function.new u.site u.head v.head
   accepted = next_accepted h.function.old h.function.new h.function.accepted h.source_path h.target_path s.continuation t.continuation u v h.source_run h.target_run next_s next_t site
@@ -383,7 +358,7 @@ module _ {source target : Program} (all : AllTidied source target) {t s : Stack}
         → ((r : ℕ) (a : Atom) → makes r a head ≡ true → evaluated (put ss (Some k) w) (Reg r) ≡ evaluated (put ss (Some k) w) a) → FramesTidied source target (passed t.top true) (gave s.top k w)
     left_put head k w eu e ev dead made =
         left_here h.top proper.top u v next_s next_t site beside k (ap assigned_register eu ∙ e) ev dead (put ss (Some k) w) (length-put ss (Some k) w ∙ h.top.source_whole)
-        (subst (λ (o : Option ℕ). KeepsOthers o ss (put ss (Some k) w)) (sym (ap gives eu ∙ left_gives head k e)) (put_others ss (Some k) w))
+        (subst (λ (o : Option ℕ). KeepsOthers o ss (put ss (Some k) w)) (sym (ap gives eu ∙ assigned_gives head k e)) (put_others ss (Some k) w))
         (λ r a m. made r a (sym (ap (makes r a) eu) ∙ m))
 
     left_step : (head : Head) (k : ℕ) → u.head ≡ head → assigned_register head ≡ Some k → v.head ≡ Skip → (IsLive h.top.function.new u.site k → ⊥) → TidiedGoOn source target t s

@@ -17,15 +17,15 @@ use Rattle.views.specs.ThreadView.{ThreadView}
 use Rattle.message_memory.specs.declared.message.Message.{Message as TheMessage}
 use Rattle.message_memory.specs.Memory.{Memory, Messages, messages, message_at, overlaps, is_free, view_index, last_to, first_message, IsDisjointAndSorted}
 use Rattle.message_memory.specs.Step.{AdmitsChoice, read_at, timestamp_in, succeeds}
-use Rattle.message_memory.proofs.Callers.{some_from_and}
+use Rattle.message_memory.proofs.Callers.{some_from_and, not_over, zip_more, some_and, and_some}
 use Rattle.memory_likeness.specs.Likeness.{Pairs, PairsAt, AreViewsAlike, AreMessagesAlike, AreMemoriesAlike, AreBothSorted}
 use Rattle.memory_likeness.specs.Answering.{IsAnswered, IsFollowed, AccessesAreFollowed, made_room, view_with_room, choice_behind}
 use Rattle.memory_likeness.specs.Moved.{moved, moved_view, opened, retimed, restamped}
 use Rattle.memory_likeness.proofs.Pairing.{OnOneSide, find_there, pair_found, in_order, pairs_rise, pair_of, second_below, sorted_second}
-use Rattle.memory_likeness.proofs.Steps.{zip_more, IsRead, seen_pair, read_at_pair, read_of, read_answered, miss_answered, load_answered, store_answered, fence_answered, print_answered, fail_answered, finish_answered, spend_answered, some_and, and_some}
+use Rattle.memory_likeness.proofs.Steps.{IsRead, seen_pair, read_at_pair, read_of, read_answered, miss_answered, load_answered, store_answered, fence_answered, print_answered, fail_answered, finish_answered, spend_answered}
 use Rattle.memory_likeness.proofs.Messages.{NoneBegins, NoneEnds, write_answered, take_answered}
 use Rattle.memory_likeness.proofs.Moving.{opened_rises, here, pairs_here, views_moved, memories_moved}
-use Rattle.memory_likeness.proofs.Room.{IsLastBelow, last_below, read_last, not_over, IsBeside, free_opened, sides_opened, none_begins, none_ends, opened_low}
+use Rattle.memory_likeness.proofs.Room.{IsLastBelow, last_below, read_last, IsBeside, free_opened, sides_opened, none_begins, none_ends, opened_low}
 
 -- ---- what is known of each message of s and its partner
 

@@ -1,7 +1,6 @@
 mod Pairing
 mod Times
 mod Steps
-mod Inserting
 mod Messages
 mod Moving
 mod Room

@@ -14,12 +14,12 @@ use Rattle.views.specs.ThreadView.{ThreadView, raised_view, heard}
 use Rattle.message_memory.specs.declared.message.Message.{Message as TheMessage}
 use Rattle.message_memory.specs.Memory.{Memory, Messages, messages, inserted, is_free, view_index, with_message, IsDisjointAndSorted}
 use Rattle.message_memory.specs.Step.{AdmitsChoice, read_at, view_after_read, write_message, update_message, updated}
-use Rattle.memory_likeness.proofs.Inserting.{sorted_inserted}
 use Rattle.memory_likeness.specs.Likeness.{Pairs, PairsAt, AreTimesAlike, AreViewsAlike, AreMessagesAlike, AreMemoriesAlike, AreBothSorted}
 use Rattle.memory_likeness.specs.Answering.{IsAnswered}
 use Rattle.memory_likeness.proofs.Pairing.{OnOneSide, zip_inserted, pairs_kept, pairs_new, pairs_back, pairs_first}
 use Rattle.memory_likeness.proofs.Times.{place_same, times_joined, views_raised, views_heard, times_handed_on}
-use Rattle.memory_likeness.proofs.Steps.{times_more, views_more, zip_more, plain_legal, IsRead}
+use Rattle.memory_likeness.proofs.Steps.{times_more, views_more, plain_legal, IsRead}
+use Rattle.message_memory.proofs.Callers.{sorted_inserted, zip_more}
 
 pub zip_and : {A B : Type 0} (R : A → B → Type 0) (P : B → Type 0) (xs : List A) (ys : List B) → AllZip R xs ys → AllByRecursion P ys → AllZip (λ x y. R x y × P y) xs ys
 zip_and R P [] [] z q = tt

@@ -19,7 +19,7 @@ message_same m n a b c d = λ k. record { from = a k; to = b k; value = c k; tim
 pub memory_same : (m n : Memory) → m.na ≡ n.na → m.atomic ≡ n.atomic → m.outputs ≡ n.outputs → m.failed ≡ n.failed → m ≡ n
 memory_same m n a b c d = λ k. record { na = a k; atomic = b k; outputs = c k; failed = d k }
 
-map_each : {A B : Type 0} (f g : A → B) → ((a : A) → f a ≡ g a) → (xs : List A) → map f xs ≡ map g xs
+pub map_each : {A B : Type 0} (f g : A → B) → ((a : A) → f a ≡ g a) → (xs : List A) → map f xs ≡ map g xs
 map_each f g e [] = refl
 map_each f g e (x ∷ xs) = ap (λ y. y ∷ map f xs) (e x) ∙ ap (λ ys. g x ∷ ys) (map_each f g e xs)
 

@@ -20,10 +20,8 @@ use Rattle.message_memory.specs.declared.message.Message.{Message as TheMessage}
 use Rattle.message_memory.specs.Memory.{Memory, messages, message_at, is_free, location_in, view_index, first_message, with_message}
 use Rattle.message_memory.specs.Step.{AdmitsChoice, IsLegal, IsProper, StepResult, step_result, is_racy, read_value, read_at, timestamp_in, view_after_read, message_times, write_message, update_message, meets_undef, succeeds, updated}
 use Rattle.message_memory.specs.Candidates.{location_of}
-use Rattle.message_memory.proofs.Callers.{some_from_and, all_found}
+use Rattle.message_memory.proofs.Callers.{some_from_and, all_found, cond_related, some_and, and_some}
 use Rattle.memory_likeness.specs.Moved.{IsRisingMap, moved_times, moved_view, moved_stamp, moved_choice, moved_event, moved, HaveAllPlaces, HasAllPlaces, IsMovedStep, StepsAreMoved}
-use Rattle.memory_likeness.proofs.Pairing.{cond_related}
-use Rattle.memory_likeness.proofs.Steps.{some_and, and_some}
 use Rattle.memory_likeness.proofs.Moving.{map_le}
 use Rattle.memory_likeness.proofs.MovedTimes.{stamp_rises, stamp_here, stamp_there, moved_at, moved_other, raised_there, raised_moved, joined_moved, view_same, fenced_moved, raised_view_moved, heard_moved, cond_mapped}
 use Rattle.memory_likeness.proofs.MovedMessages.{moved_message, message_same, messages_moved, found_moved, free_moved, some_mapped, unwrap_mapped, with_moved, na_moved}

@@ -1,18 +1,12 @@
 -- Messages of two lists that stand at one place.
-use Rattle.std.proofs.Common.{◌≡◌, ◌⊎◌, inl, inr, ⊎_elim, ℕ, ◌<◌, ◌≤◌, max, Bool, true, false, cond, eqb, ltb, [], ◌∷◌, Option, Some, refl, sym, ◌∙◌, subst, arith}
+use Rattle.std.proofs.Common.{◌≡◌, ◌⊎◌, inl, inr, ⊎_elim, ℕ, ◌<◌, ◌≤◌, max, false, eqb, ltb, [], ◌∷◌, Option, Some, refl, sym, ◌∙◌, subst, arith}
 use Rattle.std.proofs.lemmas.Bool.{false≢true, cond-true, cond-false, ne_eqb, eq-eqb, cases_eq}
 use Rattle.std.specs.List.{AllZip}
 use Rattle.std.specs.Option.{unwrap_or, IsSome}
 use Rattle.message_memory.specs.declared.message.Message.{Message as TheMessage}
 use Rattle.message_memory.specs.Memory.{Messages, message_at, inserted, IsDisjointAndSorted}
 use Rattle.memory_likeness.specs.Likeness.{Pairs}
-
--- one test on both sides
-pub cond_related : {A B : Type 0} (R : A → B → Type 0) (b c : Bool) (x x' : A) (y y' : B) → b ≡ c → R x y → R x' y' → R (cond b x x') (cond c y y')
-cond_related R true true x x' y y' e p q = p
-cond_related R true false x x' y y' e p q = absurd (false≢true (sym e))
-cond_related R false true x x' y y' e p q = absurd (false≢true e)
-cond_related R false false x x' y y' e p q = q
+use Rattle.message_memory.proofs.Callers.{cond_related}
 
 -- ---- the order of pairs
 

@@ -1,6 +1,6 @@
 -- Behind a message of t that corresponds to the last one below a place of s there is room, once it has been made.
 use Rattle.std.proofs.Common.{◌≡◌, ◌⊎◌, inl, inr, ⊎_elim, ℕ, ◌+◌, ◌<◌, ◌≤◌, max, min, true, not, ltb, [], ◌∷◌, map, Option, Some, refl, sym, ap, ◌∙◌, subst, arith}
-use Rattle.std.proofs.lemmas.Bool.{cases_lt, cond-true, cond-false, ltb-false, lt-ltb, le-ltb, and_parts, and_from, not-true, eq-eqb, ne_eqb}
+use Rattle.std.proofs.lemmas.Bool.{cases_lt, cond-true, cond-false, lt-ltb, le-ltb, and_parts, and_from, eq-eqb, ne_eqb}
 use Rattle.std.specs.List.{AllZip}
 use Rattle.std.specs.Option.{IsSome}
 use Rattle.message_memory.specs.declared.message.Message.{Message as TheMessage}
@@ -10,6 +10,7 @@ use Rattle.memory_likeness.specs.Moved.{retimed, restamped, opened}
 use Rattle.memory_likeness.proofs.Pairing.{OnOneSide, IsInOrder, first_below}
 use Rattle.memory_likeness.proofs.Messages.{NoneBegins, NoneEnds}
 use Rattle.memory_likeness.proofs.Moving.{zip_map}
+use Rattle.message_memory.proofs.Callers.{not_over}
 
 -- ---- room is made
 
@@ -39,7 +40,7 @@ pub record IsLastBelow (h : Messages) (a to : ℕ) : Type 0 where
   pub below : a < to
   pub last : (k : Messages) (c d : ℕ) → Pairs h k c d → c < to → c ≤ a
 
-some_here : (a : ℕ) (m : TheMessage) (h : Messages) → m.to ≡ a → IsSome (message_at a (m ∷ h))
+pub some_here : (a : ℕ) (m : TheMessage) (h : Messages) → m.to ≡ a → IsSome (message_at a (m ∷ h))
 some_here a m h e = subst (λ (o : Option TheMessage). IsSome o) (sym (cond-true _ (Some m) (message_at a h) (eq-eqb m.to a e))) refl
 
 some_there : (a : ℕ) (m : TheMessage) (h : Messages) → (m.to ≡ a → ⊥) → IsSome (message_at a h) → IsSome (message_at a (m ∷ h))
@@ -75,9 +76,6 @@ last_below (m ∷ n ∷ h) to s l =
     (λ (e : m.to < to). (m.to, head_last m (n ∷ h) to s e))
     (λ (e : to ≤ m.to). let r = last_below (n ∷ h) to s.2 l in (r.0, later_last m (n ∷ h) r.0 to e r.1))
     (cases_lt m.to to)
-
-pub not_over : (from to : ℕ) (m : TheMessage) → not (overlaps from to m) ≡ true → min to m.to ≤ max from m.from
-not_over from to m e = ltb-false _ _ (not-true _ e)
 
 -- the message that an update reads is the last below its place
 pub read_last : (h : Messages) (a to : ℕ) → IsDisjointAndSorted h → IsSome (message_at a h) → a < to → is_free a to h ≡ true → IsLastBelow h a to

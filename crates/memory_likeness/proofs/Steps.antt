@@ -1,9 +1,9 @@
 -- Accesses that put in no message.
-use Rattle.std.proofs.Common.{◌≡◌, ℕ, ◌+◌, ◌<◌, ◌≤◌, true, false, ltb, List, [], ◌∷◌, length, Option, Some, None, get_or, set, refl, sym, ap, ◌∙◌, subst, arith, ⊎_elim}
-use Rattle.std.proofs.lemmas.Bool.{cases_eq, false≢true}
+use Rattle.std.proofs.Common.{◌≡◌, ℕ, ◌+◌, ◌<◌, ◌≤◌, true, false, ltb, List, [], length, get_or, set, refl, sym, ap, ◌∙◌, subst, arith, ⊎_elim}
+use Rattle.std.proofs.lemmas.Bool.{cases_eq}
 use Rattle.std.proofs.lemmas.List.{length-set}
 use Rattle.std.specs.List.{AllZip}
-use Rattle.std.specs.Option.{unwrap_or, IsSome, IsSomeAnd}
+use Rattle.std.specs.Option.{IsSome}
 use Rattle.std.specs.Prelude.{pos, ℤ}
 use Rattle.values_undef.specs.Access.{acquires}
 use Rattle.values_undef.specs.declared.value.Val.{Val}
@@ -22,8 +22,9 @@ use Rattle.message_memory.specs.Memory.{Memory, Messages, messages, message_at, 
 use Rattle.message_memory.specs.Step.{is_racy, read_value, read_at, timestamp_in, view_after_read, meets_undef, succeeds}
 use Rattle.memory_likeness.specs.Likeness.{Pairs, PairsAt, AreTimesAlike, AreViewsAlike, AreMessagesAlike, AreMemoriesAlike, AreBothSorted}
 use Rattle.memory_likeness.specs.Answering.{StayAlike, AreResultsAlike, IsAnswered}
-use Rattle.memory_likeness.proofs.Pairing.{cond_related, pairs_rise, pair_of, pair_found}
+use Rattle.memory_likeness.proofs.Pairing.{pairs_rise, pair_of, pair_found}
 use Rattle.memory_likeness.proofs.Times.{place_same, views_raised, views_heard, views_fenced}
+use Rattle.message_memory.proofs.Callers.{cond_related, zip_more, some_and}
 
 -- ---- from one pair of memories to another
 
@@ -45,12 +46,6 @@ views_more s t s' t' v w e f more r = record {
   got = times_more s t s' t' v.got w.got e f more r.got;
   rel = times_more s t s' t' v.rel w.rel e f more r.rel;
 }
-
-pub zip_more : {A B : Type 0} (R S : A → B → Type 0) → ((a : A) (b : B) → R a b → S a b) → (xs : List A) (ys : List B) → AllZip R xs ys → AllZip S xs ys
-zip_more R S f [] [] z = tt
-zip_more R S f [] (y ∷ ys) z = absurd z
-zip_more R S f (x ∷ xs) [] z = absurd z
-zip_more R S f (x ∷ xs) (y ∷ ys) z = (f x y z.0, zip_more R S f xs ys z.1)
 
 -- the messages are as before
 pub histories_kept : (s t s' t' : Memory) → length s'.na ≡ length s.na → s'.atomic ≡ s.atomic → t'.atomic ≡ t.atomic → AreMemoriesAlike s t
@@ -258,14 +253,6 @@ read_answered s t v w i y order a b o m r e l q = record {
     alike = stay_alike s t _ _ m (views_after_read s t v w y order a b (read_at s y a) (read_at t y b) o m r l q.pair q.alike.times);
   };
 }
-
-pub some_and : {X : Type 0} (o : Option X) (P : X → Type 0) (d : X) → IsSome o → P (unwrap_or o d) → IsSomeAnd o P
-some_and None P d s p = absurd (false≢true s)
-some_and (Some x) P d s p = p
-
-pub and_some : {X : Type 0} (o : Option X) (P : X → Type 0) (d : X) → IsSomeAnd o P → P (unwrap_or o d)
-and_some None P d s = absurd s
-and_some (Some x) P d s = s
 
 -- an update that doesn't succeed on the message
 pub miss_answered : (s t : Memory) (v w : ThreadView) (i y : ℕ) (order : Order) (kind : UpdateKind) (a b : ℕ) → AreBothSorted s t → AreMemoriesAlike s t → AreViewsAlike s t v w → s.failed ≡ false → y < length s.atomic → IsRead s t v w y a b

@@ -10,7 +10,8 @@ use Rattle.views.proofs.Callers.{length-joined, length-raised, get_or-raised_sam
 use Rattle.message_memory.specs.Memory.{Memory, messages, view_index}
 use Rattle.message_memory.specs.Step.{message_times}
 use Rattle.memory_likeness.specs.Likeness.{PairsAt, AreTimesAlike, AreViewsAlike, AreBothSorted}
-use Rattle.memory_likeness.proofs.Pairing.{cond_related, pairs_max}
+use Rattle.memory_likeness.proofs.Pairing.{pairs_max}
+use Rattle.message_memory.proofs.Callers.{cond_related}
 
 pub place_same : (s t : Memory) (y : ℕ) → t.na ≡ s.na → view_index t y ≡ view_index s y
 place_same s t y e = ap (λ c. length c + y) e

@@ -22,13 +22,13 @@ use Rattle.views.proofs.Callers.{joined_same}
 use Rattle.message_memory.specs.declared.message.Message.{Message as TheMessage}
 use Rattle.message_memory.specs.Memory.{Memory, messages, location_in, view_index, message_at, first_message}
 use Rattle.message_memory.specs.Step.{step_result, view_after_read, message_times, read_at, timestamp_in, succeeds, meets_undef, write_message, update_message, AdmitsChoice, IsLegal, reach, carried}
-use Rattle.message_memory.proofs.Callers.{some_from_and, raised_atomic}
+use Rattle.message_memory.proofs.Callers.{some_from_and, raised_atomic, cond_related, some_and, and_some}
 use Rattle.memory_relation.specs.Relation.{Pairing, owner, hides, HidesNothing, AreMessagesRelated, AreMemoriesRelated, respected, AreTimesRelated, AreViewsRelated}
 use Rattle.values_undef.specs.Matching.{DoTheSame, without_place, IsKindBelow, loads, stores, reads, writes, updates, fences, prints, fails, finishes, spends}
 use Rattle.memory_relation.specs.Answering.{IsFailed, IsMatch, IsAnswered, choice_for}
 use Rattle.memory_relation.specs.Laws.{AtomicAccessesAreAnswered, FencesAreAnswered, ChoicesAreFound}
 use Rattle.memory_relation.proofs.Owners.{thread_owner, goes_on}
-use Rattle.memory_relation.proofs.Histories.{cond_related, cond_others, AreFound, found_related, some_and, and_some, free_same, message_related}
+use Rattle.memory_relation.proofs.Histories.{cond_others, AreFound, found_related, free_same, message_related}
 
 -- ---- the same place on both sides
 

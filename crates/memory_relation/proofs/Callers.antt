@@ -1,6 +1,5 @@
 -- What a caller's proof needs: how memories and views stay related, access by access.
 pub use Rattle.memory_relation.proofs.Owners.{goes_on}
-pub use Rattle.memory_relation.proofs.Histories.{and_some}
 pub use Rattle.memory_relation.proofs.NonAtomic.{reads_below}
 pub use Rattle.memory_relation.proofs.Stores.{pending_follows, stores_removed}
 pub use Rattle.memory_relation.proofs.Openings.{openings_related}

@@ -16,12 +16,12 @@ use Rattle.message_memory.specs.declared.message.Message.{Message as TheMessage}
 use Rattle.message_memory.specs.declared.message.Versioned.{Versioned}
 use Rattle.message_memory.specs.Memory.{Memory, location_in, absent_location, messages, IsClosed, IsClosedView}
 use Rattle.message_memory.specs.Step.{StepResult, step_result, is_racy, reach, carried}
-use Rattle.message_memory.proofs.Callers.{parts_ordered}
+use Rattle.message_memory.proofs.Callers.{parts_ordered, zip_more}
 use Rattle.memory_relation.specs.Relation.{Pairing, owner, is_thread, hides, AreCellsRelated, AreMessagesRelated, AreMemoriesRelated, respected, AreTimesRelated, AreViewsRelated, GoesOn, next, settle, hide, opening_pairing}
 use Rattle.memory_relation.specs.Answering.{IsFailed, IsMatch}
 use Rattle.memory_relation.specs.Laws.{StoresAreAnswered, StoresAreRelated, StoresSettle, StoresAreBlocked, StoresAreRemoved, PendingFollows}
 use Rattle.memory_relation.proofs.Owners.{owner_thread, none_thread, other_thread, cell_le, cells_moved}
-use Rattle.memory_relation.proofs.Histories.{zip_more, cond_others}
+use Rattle.memory_relation.proofs.Histories.{cond_others}
 use Rattle.memory_relation.proofs.NonAtomic.{target_within, pending_behind, racy_same}
 
 -- the memory after a store that is no race

@@ -1,8 +1,10 @@
 -- What a caller's proof needs: steps, histories, candidates, and what is known of one location.
 -- one step
 pub use Rattle.message_memory.proofs.StepLaws.{failures_fail, fails_exactly, failures_alone, outputs_grow, keep_well_formed, keep_closed, keep_locations, newest_chosen, stay_near, grow, choices_have_form, plain_legal, no_step, one_result}
-pub use Rattle.message_memory.proofs.StepLemmas.{some_from_and, found_within, last_to-inserted, all_inserted, all_found, top_times-na, top_times-at}
+pub use Rattle.message_memory.proofs.StepLemmas.{not_over, sorted_inserted, some_from_and, found_within, last_to-inserted, all_inserted, all_found, top_times-na, top_times-at}
 pub use Rattle.message_memory.proofs.EventKinds.{events_of_kind, stores_one_higher, proper_same, leaves_atomic, atomic_leaves, plain_leaves}
+-- things in pairs
+pub use Rattle.message_memory.proofs.InPairs.{cond_related, zip_more, some_and, and_some}
 -- histories
 pub use Rattle.message_memory.proofs.HistoryLemmas.{all_at, call_made, step_choice, one_after, histories_split, histories_go_on, state_after-append, well_formed_after, well_formed_calls, initial_state_well_formed}
 pub use Rattle.message_memory.proofs.InitialLemmas.{initial_well_formed, initial_locations}

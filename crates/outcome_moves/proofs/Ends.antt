@@ -18,12 +18,10 @@ use Rattle.view_machine.specs.State.{State, view_in, initial_state, declared_val
 use Rattle.view_machine.specs.Runs.{after_entry, IsRunFrom, state_after}
 use Rattle.outcome_nodes.proofs.Callers.{Spends, Makes, entry_done}
 use Rattle.outcome_moves.specs.Ends.{end_in, HasEnd}
+use Rattle.memory_likeness.proofs.Callers.{some_here}
 
 found_more : (b : ℕ) (m : TheMessage) (h : Messages) → IsSome (message_at b (m ∷ h)) → (m.to ≡ b) ⊎ IsSome (message_at b h)
 found_more b m h = cond_both (eqb m.to b) (Some m) (message_at b h) (λ (o : Option TheMessage). IsSome o → (m.to ≡ b) ⊎ IsSome (message_at b h)) (λ e _. inl (eqb-true m.to b e)) (λ e q. inr q)
-
-found_here : (b : ℕ) (m : TheMessage) (h : Messages) → m.to ≡ b → IsSome (message_at b (m ∷ h))
-found_here b m h e = subst IsSome (sym (cond-true (eqb m.to b) (Some m) (message_at b h) (eq-eqb m.to b e))) refl
 
 found_there : (b : ℕ) (m : TheMessage) (h : Messages) → IsSome (message_at b h) → IsSome (message_at b (m ∷ h))
 found_there b m h q = cond_both (eqb m.to b) (Some m) (message_at b h) (λ (o : Option TheMessage). IsSome o) (λ e. refl) (λ e. q)
@@ -35,7 +33,7 @@ found_inserted b m (n ∷ h) q =
     (λ e r. found_more b m (n ∷ h) r)
     (λ e t.
     ⊎_elim
-    (λ (r : n.to ≡ b). inr (found_here b n h r))
+    (λ (r : n.to ≡ b). inr (some_here b n h r))
     (λ (r : IsSome (message_at b (inserted m h))). ⊎_elim (λ (x : m.to ≡ b). inl x) (λ (x : IsSome (message_at b h)). inr (found_there b n h x)) (found_inserted b m h r))
     (found_more b n (inserted m h) t))
     q

@@ -1,8 +1,8 @@
 -- An access that is tried where a run ends.
 use Rattle.std.proofs.Common.{◌≡◌, ◌⊎◌, inl, inr, ⊎_elim, ℕ, ◌-◌, ◌<◌, ◌≤◌, Bool, true, false, cond, eqb, ◌&&◌, List, [], ◌∷◌, ◌++◌, length, map, get_or, None, refl, sym, ap, ◌∙◌, subst, arith}
-use Rattle.std.specs.Prelude.{◌||◌, IsSome}
+use Rattle.std.specs.Prelude.{IsSome}
 use Rattle.std.specs.List.{AllByRecursion}
-use Rattle.std.proofs.lemmas.Bool.{cases_Bool, cond-true, cond-false, cond_both, eq-eqb, true≢false, false≢true}
+use Rattle.std.proofs.lemmas.Bool.{cases_Bool, cond-true, cond-false, cond_both, eq-eqb, false≢true, or_parts}
 use Rattle.std.proofs.lemmas.List.{length-map, get_or-set_same}
 use Rattle.values_undef.specs.Access.{leaves_choice, is_failure, is_spend}
 use Rattle.values_undef.specs.Journal.{used_steps}
@@ -38,10 +38,6 @@ use Rattle.outcome_moves.specs.Moves.{last_state, silent_there}
 use Rattle.outcome_moves.proofs.There.{running_there}
 
 -- ---- no thread ends for want of steps
-
-or_parts : (b c : Bool) → (b || c) ≡ false → (b ≡ false) × (c ≡ false)
-or_parts true c e = absurd (true≢false e)
-or_parts false c e = (refl, e)
 
 and_false : (b c : Bool) → b ≡ true → (b && c) ≡ false → c ≡ false
 and_false true c e q = q

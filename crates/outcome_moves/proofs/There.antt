@@ -1,5 +1,5 @@
 -- What a thread does where a run ends, as the machine tells it.
-use Rattle.std.proofs.Common.{◌≡◌, ◌⊎◌, inl, inr, ⊎_elim, ℕ, ◌+◌, ◌-◌, ◌<◌, ◌≤◌, Bool, true, false, ltb, List, length, refl, sym, ap, ◌∙◌, subst, arith}
+use Rattle.std.proofs.Common.{◌≡◌, ◌⊎◌, ⊎_elim, ℕ, ◌+◌, ◌-◌, ◌<◌, ◌≤◌, Bool, true, false, ltb, List, length, refl, sym, ap, ◌∙◌, subst, arith}
 use Rattle.std.proofs.lemmas.List.{get_or-set_same}
 use Rattle.values_undef.specs.Journal.{used_steps}
 use Rattle.values_undef.specs.declared.access.Access.{Access}
@@ -17,7 +17,7 @@ use Rattle.view_machine.specs.Laws.{IsReached}
 use Rattle.view_machine.proofs.Callers.{silent_steps_local, states_whole}
 use Rattle.outcome_nodes.specs.Nodes.{local_of, used_of, is_silent}
 use Rattle.outcome_nodes.specs.Standing.{node_of, IsNodeRun}
-use Rattle.outcome_nodes.proofs.Callers.{silent_has, steps_are}
+use Rattle.outcome_nodes.proofs.Callers.{silent_has, steps_are, end_or_not}
 use Rattle.outcome_moves.proofs.Playing.{same_access}
 use Rattle.outcome_moves.specs.Moves.{last_state, silent_there, IsWhat}
 use Rattle.outcome_moves.specs.declared.standing.What.{What}
@@ -27,18 +27,6 @@ use Rattle.std.proofs.lemmas.Bool.{cases_Bool, true≢false, ltb-true, ltb-false
 abbrev goes_on : Access → Bool
 goes_on access.Finish = false
 goes_on _ = true
-
-pub end_or_not : (a : Access) → (a ≡ access.Finish) ⊎ (a ≡ access.Finish → ⊥)
-end_or_not access.Finish = inl refl
-end_or_not (access.NaRead x) = inr (λ e. true≢false (ap goes_on e))
-end_or_not (access.NaWrite x v) = inr (λ e. true≢false (ap goes_on e))
-end_or_not (access.Read y o) = inr (λ e. true≢false (ap goes_on e))
-end_or_not (access.Write y o v) = inr (λ e. true≢false (ap goes_on e))
-end_or_not (access.Update y o k) = inr (λ e. true≢false (ap goes_on e))
-end_or_not (access.Fence o) = inr (λ e. true≢false (ap goes_on e))
-end_or_not (access.Print v) = inr (λ e. true≢false (ap goes_on e))
-end_or_not (access.Fail c) = inr (λ e. true≢false (ap goes_on e))
-end_or_not access.Spend = inr (λ e. true≢false (ap goes_on e))
 
 module _ (p : Program) (steps : ℕ) (entries : List Entry) (i : ℕ) (ok : IsProperProgram p) (run : IsNodeRun p steps entries) (l : i < length p.threads) where
   abbrev s : State

@@ -1,7 +1,6 @@
 -- Journals with one more entry, and events without their timestamps.
 use Rattle.std.proofs.Common.{◌≡◌, ◌⊎◌, inl, inr, ⊎_elim, ℕ, ℤ, ◌+◌, Bool, true, false, cond, eqb, ◌&&◌, List, [], ◌∷◌, ◌++◌, refl, sym, ap, ◌∙◌, arith}
 use Rattle.std.specs.Prelude.{◌||◌}
-use Rattle.std.specs.List.{list_any}
 use Rattle.std.proofs.lemmas.Bool.{false≢true, true≢false, cond-false, ne_eqb}
 use Rattle.std.proofs.lemmas.List.{append_assoc, append-nil, get_or-set_other}
 use Rattle.std.proofs.lemmas.List.Folds.{list_any-append}
@@ -22,6 +21,7 @@ use Rattle.run_choices.specs.Complete.{has_ended as journal_ended, has_spent}
 use Rattle.memory_likeness.specs.Likeness.{without_stamps}
 use Rattle.outcome_nodes.specs.Nodes.{prints, printed_by, told_by}
 use Rattle.outcome_nodes.proofs.Entries.{Spends, Makes, EntryDone, entry_done}
+use Rattle.run_choices.proofs.Callers.{one_any}
 
 -- ---- events
 
@@ -125,9 +125,6 @@ no_end (access.Fail c) h s = refl
 no_end access.Spend h s = absurd (true≢false s)
 
 -- ---- one more entry
-
-one_any : (test : Entry → Bool) (e : Entry) → list_any test (e ∷ []) ≡ test e
-one_any test e = elim (test e) as (λ b. (b || false) ≡ b) [ true ↦ refl | false ↦ refl ]
 
 pub finished_more : (xs : List Entry) (e : Entry) (i : ℕ) → has_finished (xs ++ e ∷ []) i ≡ (has_finished xs i || (eqb e.thread i && is_finish e.event))
 finished_more xs e i = list_any-append (finishes i) xs (e ∷ []) ∙ ap (λ (b : Bool). has_finished xs i || b) (one_any (finishes i) e)

@@ -4,7 +4,6 @@ use Rattle.std.proofs.lemmas.Bool.{false≢true}
 use Rattle.std.proofs.lemmas.List.{length-map, length-replicate, get_or-map, get_or-replicate}
 use Rattle.values_undef.specs.Journal.{has_finished}
 use Rattle.il_syntax.specs.declared.program.Program.{Program}
-use Rattle.il_syntax.specs.declared.program.Location.{Location}
 use Rattle.il_syntax.specs.declared.program.Start.{Start}
 use Rattle.views.specs.ThreadView.{ThreadView, no_view, zero_view}
 use Rattle.message_memory.specs.Memory.{Memory, initial_memory}
@@ -15,12 +14,10 @@ use Rattle.memory_likeness.specs.Likeness.{AreViewsAlike}
 use Rattle.memory_likeness.proofs.Callers.{openings_alike}
 use Rattle.outcome_nodes.specs.Nodes.{first_node, settled, settled_use}
 use Rattle.outcome_nodes.proofs.Following.{IsAt}
+use Rattle.view_machine.proofs.Callers.{length_values}
 
 no_start : Start
 no_start = record { function = 0; args = [] }
-
-length_values : (locations : List Location) → length (declared_values locations) ≡ length locations
-length_values locations = length-map locations (λ l. l.value)
 
 pub first_at : (p : Program) (steps : ℕ) → IsAt p steps [] (initial_state p) (first_node p steps)
 first_at p steps = record {

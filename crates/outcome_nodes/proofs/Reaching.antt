@@ -37,7 +37,8 @@ use Rattle.outcome_nodes.specs.Reached.{begins, moves, IsRunOf, NodesAreOfRuns, 
 use Rattle.outcome_nodes.proofs.Appending.{finished_more, failures_print_nothing, no_end, unended}
 use Rattle.outcome_nodes.proofs.Following.{used_here, used_other, printed_here, printed_other, told_here, told_other, settled_same, use_same}
 use Rattle.outcome_nodes.proofs.Opening.{first_at}
-use Rattle.outcome_nodes.proofs.Rooms.{has_steps, silenced, legal_silenced, AreSilencedResults, result_silenced, RoomIsSilenced, room_silenced, map_by, IsPrepared, prepared}
+use Rattle.outcome_nodes.proofs.Rooms.{has_steps, silenced, legal_silenced, AreSilencedResults, result_silenced, RoomIsSilenced, room_silenced, IsPrepared, prepared}
+use Rattle.memory_likeness.proofs.Callers.{map_each}
 
 -- ---- an access as an entry
 
@@ -284,7 +285,7 @@ module _ (p : Program) (steps : ℕ) (n : Node) (entries : List Entry) (s : Stat
             (cases_eq j i);
         views =
             ap (λ (y : List ThreadView). set (map (λ v. view_with_room n.memory v a b) y) i r.view) R.views
-            ∙ ap (λ (y : List ThreadView). set y i r.view) (map_by (λ v. view_with_room n.memory v a b) (λ v. view_with_room s.memory v a b) (λ v. ap (λ (m : Memory). view_with_room m v a b) R.memory ∙ silent.view v) s.views ∙ sym P.views)
+            ∙ ap (λ (y : List ThreadView). set y i r.view) (map_each (λ v. view_with_room n.memory v a b) (λ v. view_with_room s.memory v a b) (λ v. ap (λ (m : Memory). view_with_room m v a b) R.memory ∙ silent.view v) s.views ∙ sym P.views)
             ∙ ap (set u.views i) results.view;
         memory = results.memory;
         running = sym (ap (λ (m : Memory). m.failed) results.memory) ∙ goes;

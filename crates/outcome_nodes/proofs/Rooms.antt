@@ -27,7 +27,7 @@ use Rattle.run_choices.specs.Complete.{has_spent}
 use Rattle.memory_likeness.specs.Likeness.{without_stamps}
 use Rattle.memory_likeness.specs.Moved.{moved, moved_view, moved_event, opened}
 use Rattle.memory_likeness.specs.Answering.{puts_in, made_room, view_with_room, choice_behind}
-use Rattle.memory_likeness.proofs.Callers.{opened_rises}
+use Rattle.memory_likeness.proofs.Callers.{opened_rises, map_each}
 use Rattle.outcome_nodes.specs.Nodes.{is_silent, silent_steps, prints, printed_by, told_by}
 use Rattle.outcome_nodes.specs.Moved.{moved_entry, moved_state}
 use Rattle.outcome_nodes.proofs.MovedRuns.{spend_moved, finish_moved, runs_moved}
@@ -212,10 +212,6 @@ pub record IsPrepared (p : Program) (entries : List Entry) (s : State) (a : Acce
   pub finished : (j : ℕ) → has_finished entries' j ≡ has_finished entries j
   pub spent : (j : ℕ) → has_spent entries' j ≡ has_spent entries j
 
-pub map_by : {A B : Type 0} (f g : A → B) → ((a : A) → f a ≡ g a) → (xs : List A) → map f xs ≡ map g xs
-map_by f g e [] = refl
-map_by f g e (x ∷ xs) = ap (λ y. y ∷ map f xs) (e x) ∙ ap (λ ys. g x ∷ ys) (map_by f g e xs)
-
 map_same : {A : Type 0} (xs : List A) → xs ≡ map (λ x. x) xs
 map_same [] = refl
 map_same (x ∷ xs) = ap (λ ys. x ∷ ys) (map_same xs)
@@ -239,7 +235,7 @@ prepared_moved p entries s a b ok run proper many e = record {
   run = runs_moved p entries s (location_of a) (opened b) ok (opened_rises b) (omega (arith, many, place_there s.memory a b proper e)) run;
   locals = refl;
   ended = refl;
-  views = map_by (moved_view (view_index s.memory (location_of a)) (opened b)) (λ v. view_with_room s.memory v a b) (λ v. sym (cond-true (puts_in s.memory a b) (moved_view (view_index s.memory (location_of a)) (opened b) v) v e)) s.views;
+  views = map_each (moved_view (view_index s.memory (location_of a)) (opened b)) (λ v. view_with_room s.memory v a b) (λ v. sym (cond-true (puts_in s.memory a b) (moved_view (view_index s.memory (location_of a)) (opened b) v) v e)) s.views;
   memory = sym (cond-true (puts_in s.memory a b) (moved s.memory (location_of a) (opened b)) s.memory e);
   used = used_moved (location_of a) (opened b) entries;
   printed = printed_moved (location_of a) (opened b) entries;
@@ -254,7 +250,7 @@ prepared_same p entries s a b run e = record {
   run = run;
   locals = refl;
   ended = refl;
-  views = map_same s.views ∙ map_by (λ v. v) (λ v. view_with_room s.memory v a b) (λ v. sym (cond-false (puts_in s.memory a b) (moved_view (view_index s.memory (location_of a)) (opened b) v) v e)) s.views;
+  views = map_same s.views ∙ map_each (λ v. v) (λ v. view_with_room s.memory v a b) (λ v. sym (cond-false (puts_in s.memory a b) (moved_view (view_index s.memory (location_of a)) (opened b) v) v e)) s.views;
   memory = sym (cond-false (puts_in s.memory a b) (moved s.memory (location_of a) (opened b)) s.memory e);
   used = λ j. refl;
   printed = λ j. refl;

@@ -1,18 +1,16 @@
 -- A call of a function begins beside the same call of the source, and ends with a result below.
-use Rattle.std.proofs.Common.{◌≡◌, ℕ, pos, ◌+◌, List, [], ◌∷◌, length, Option, Some, None, refl, sym, ap, ◌∙◌, subst, set}
+use Rattle.std.proofs.Common.{◌≡◌, ℕ, pos, ◌+◌, List, [], ◌∷◌, length, refl, sym, ap, ◌∙◌, subst, set}
 use Rattle.std.proofs.lemmas.List.{length-set, length-replicate}
 use Rattle.values_undef.specs.declared.value.Val.{Val}
-use Rattle.values_undef.specs.declared.value.Val.TheVariants.{Def, Undef}
+use Rattle.values_undef.specs.declared.value.Val.TheVariants.{Def}
 use Rattle.values_undef.proofs.Callers.{below_refl}
-use Rattle.il_syntax.specs.declared.program.Function.{Function}
-use Rattle.il_syntax.specs.declared.program.Program.{Program}
 use Rattle.il_paths.specs.Tree.{tree_of}
 use Rattle.il_paths.specs.Code.{Code, placed, AllCode}
 use Rattle.il_paths.specs.Paths.{here}
 use Rattle.il_paths.proofs.Callers.{all_placed, all_heads_more}
-use Rattle.thread_core.specs.Programs.{function_at, body_in, code_of, IsProperHead}
-use Rattle.thread_core.specs.Frames.{Frame, blank, loaded, evaluated, function_result}
-use Rattle.thread_core.proofs.Callers.{proper_more}
+use Rattle.thread_core.specs.Programs.{code_of, IsProperHead}
+use Rattle.thread_core.specs.Frames.{blank, loaded, evaluated}
+use Rattle.thread_core.proofs.Callers.{proper_more, length-loaded, code_is, result_is}
 use Rattle.validator.specs.Beside.{Beside}
 use Rattle.paired_threads.specs.Values.{register, RegistersBelow, ValuesBelow}
 use Rattle.paired_threads.specs.Functions.{old_registers}
@@ -25,13 +23,6 @@ loaded_below old from [] (c ∷ ss) rt rs below same h = absurd below
 loaded_below old from (b ∷ ts) [] rt rs below same h = absurd below
 loaded_below old from (b ∷ ts) (c ∷ ss) rt rs below same h =
     loaded_below old (from + 1) ts ss (set rt from b) (set rs from c) below.1 (length-set rt from b ∙ same ∙ sym (length-set rs from c)) (set_below old rt rs from b c same below.0 h)
-
-length-loaded : (from : ℕ) (ts rt : List Val) → length (loaded from ts rt) ≡ length rt
-length-loaded from [] rt = refl
-length-loaded from (b ∷ ts) rt = length-loaded (from + 1) ts (set rt from b) ∙ length-set rt from b
-
-code_is : (p : Program) (k : ℕ) (f : Function) → function_at p k ≡ Some f → code_of p k ≡ placed 0 (tree_of f.body)
-code_is p k f e = ap (λ (o : Option Function). placed 0 (body_in o)) e
 
 pub calls_begin_paired : CallsBeginPaired
 calls_begin_paired p q k fn ts ss below =
@@ -53,10 +44,6 @@ calls_begin_paired p q k fn ts ss below =
           (all_placed (IsProperHead q 64) 0 (tree_of fn.target.body)
           (all_heads_more (IsProperHead q (length fn.target.registers)) (IsProperHead q 64) (λ x h. proper_more q (length fn.target.registers) x fn.target_proper.few h) (tree_of fn.target.body) fn.target_proper.heads));
     }
-
-result_is : (p : Program) (k : ℕ) (f : Function) (frame : Frame) → frame.function ≡ k → function_at p k ≡ Some f → function_result p frame ≡ evaluated frame.registers f.result
-result_is p k f frame e there =
-    ap (λ (o : Option Function). elim o as (λ _. Val) [ Some g ↦ evaluated frame.registers g.result | None ↦ Undef ]) (ap (function_at p) e ∙ there)
 
 pub results_are_below : ResultsAreBelow
 results_are_below p q k fn path t s h =

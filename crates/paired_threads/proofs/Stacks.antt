@@ -7,7 +7,6 @@ use Rattle.values_undef.specs.Value.{IsBelow}
 use Rattle.values_undef.specs.declared.value.Val.{Val}
 use Rattle.values_undef.specs.declared.value.Val.TheVariants.{Def, Undef}
 use Rattle.values_undef.specs.declared.access.Cause.{Cause}
-use Rattle.values_undef.specs.declared.access.Access.TheVariants as access
 use Rattle.il_syntax.specs.declared.program.Function.{Function}
 use Rattle.il_syntax.specs.declared.program.Program.{Program}
 use Rattle.il_syntax.specs.declared.statement.Atom.{Atom}
@@ -39,6 +38,7 @@ use Rattle.paired_threads.proofs.Pending.{level_more}
 use Rattle.paired_threads.proofs.Calls.{calls_begin_paired, results_are_below}
 use Rattle.paired_threads.proofs.Wants.{next_below}
 use Rattle.paired_threads.proofs.Working.{frame_after, related, registers_given, pends_same, asks_not_silent, works}
+use Rattle.thread_core.proofs.Callers.{same_lengths}
 
 -- a call of a function on both sides
 abbrev pub called_paired : {source target : Program} (k : ℕ) (vs ws : List Val) → PairedFunction source target k → ValuesBelow vs ws → CallPaired source target (called target k vs) (called source k ws)
@@ -113,12 +113,6 @@ advanced_works p s (Print a) n = refl
 advanced_works p s (If a i j) n = refl
 advanced_works p s (While a i) n = refl
 advanced_works p s (Call i g args) n = absurd (n g refl)
-
-pub same_lengths : {A B : Type 0} (R : A → B → Type 0) (xs : List A) (ys : List B) → AllZip R xs ys → length xs ≡ length ys
-same_lengths R [] [] z = refl
-same_lengths R [] (y ∷ ys) z = absurd z
-same_lengths R (x ∷ xs) [] z = absurd z
-same_lengths R (x ∷ xs) (y ∷ ys) z = omega (arith, same_lengths R xs ys z.1)
 
 -- a loop is at no load
 loop_loads_not : (c : Code) → StartsLoop c → (r x : ℕ) → first_head c ≡ Some (Load r x) → ⊥

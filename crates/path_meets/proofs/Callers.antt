@@ -8,4 +8,4 @@ pub use Rattle.path_meets.proofs.TreeWalks.{exit-placed, table-placed, enter-pla
 pub use Rattle.path_meets.proofs.TreeSteps.{exit_tree-drop, table_tree-drop, enter_tree-drop, after_tree-drop, exit_tree-if, exit_tree-while, table_tree-if, table_tree-while, enter_tree-if, enter_tree-while, after_tree-if, after_tree-while}
 pub use Rattle.path_meets.proofs.SitedSteps.{exit-drop, table-drop, exit-if, exit-while, table-if, table-while}
 pub use Rattle.path_meets.proofs.MeetLaws.{before_exist, through_exist, after_exist, from_exist, are_one, runs_above}
-pub use Rattle.path_meets.proofs.YesNo.{some_path_before, some_path_through, all_paths_after}
+pub use Rattle.path_meets.proofs.YesNo.{some_path_before, some_path_through, all_paths_after, yes_of}

@@ -14,7 +14,7 @@ pub used_more : (xs : List Entry) (e : Entry) (i : ℕ) → used_steps (xs ++ e 
 used_more [] e i = omega arith
 used_more (x ∷ xs) e i = let more = used_more xs e i in omega (arith, more)
 
-one_any : (test : Entry → Bool) (e : Entry) → list_any test (e ∷ []) ≡ test e
+pub one_any : (test : Entry → Bool) (e : Entry) → list_any test (e ∷ []) ≡ test e
 one_any test e = elim (test e) as (λ b. (b || false) ≡ b) [ true ↦ refl | false ↦ refl ]
 
 pub ended_more : (xs : List Entry) (e : Entry) (i : ℕ) → has_ended (xs ++ e ∷ []) i ≡ (has_ended xs i || (eqb e.thread i && ends_thread e.event))

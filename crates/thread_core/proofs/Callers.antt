@@ -7,3 +7,4 @@ pub use Rattle.thread_core.proofs.Silent.{silent_more, after_more, one_more_sile
 pub use Rattle.thread_core.proofs.Opened.{some_from}
 pub use Rattle.thread_core.proofs.Budgets.{within_some, within_none, within_silent, within_spent, within_finish}
 pub use Rattle.thread_core.proofs.Placing.{proper_more, function_proper, call_few}
+pub use Rattle.thread_core.proofs.Calling.{length-loaded, code_is, result_is, same_lengths, asked_same, goes_past}

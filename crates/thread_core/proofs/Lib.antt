@@ -8,4 +8,5 @@ mod Asking
 mod Silent
 mod Opened
 mod Budgets
+mod Calling
 pub mod Callers

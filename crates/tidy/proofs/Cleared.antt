@@ -9,7 +9,7 @@ use Rattle.il_paths.specs.Heads.{gives}
 use Rattle.il_paths.specs.Tree.{Leaf, head_of_leaf, tree_of, heads_in}
 use Rattle.il_paths.specs.Code.{Visit, Code, Loop, placed}
 use Rattle.il_paths.specs.Paths.{IsPath, ends, passes, takes_yes_block, takes_no_block, turns, leaves, sites_of_path}
-use Rattle.il_paths.proofs.Callers.{path_runs, runs_halves, runs_first}
+use Rattle.il_paths.proofs.Callers.{path_runs, runs_halves, runs_first, sites-append}
 use Rattle.tidy.specs.Atoms.{reads_register}
 use Rattle.tidy.specs.Live.{IsWanted, is_result, is_read, is_kept}
 use Rattle.tidy.specs.Accepts.{assigned_register}
@@ -88,10 +88,6 @@ pub record PathBeside (a : Code) (q : List Visit) : Type 0 where
   pub is : IsPath a path
   pub sites : sites_of_path path ≡ sites_of_path q
 
-sites-append : (p q : List Visit) → sites_of_path (p ++ q) ≡ sites_of_path p ++ sites_of_path q
-sites-append [] q = refl
-sites-append (v ∷ p) q = ap (λ (s : List ℕ). v.site ∷ s) (sites-append p q)
-
 both_sites : (u v : Visit) (p1 p2 q1 q2 : List Visit) → v.site ≡ u.site → sites_of_path p1 ≡ sites_of_path q1 → sites_of_path p2 ≡ sites_of_path q2 → sites_of_path (u ∷ (p1 ++ p2)) ≡ sites_of_path (v ∷ (q1 ++ q2))
 both_sites u v p1 p2 q1 q2 s e f =
     λ i. sym s i ∷ (sites-append p1 p2 ∙ (λ j. e j ++ f j) ∙ sym (sites-append q1 q2)) i
@@ -119,7 +115,7 @@ head_on_path f p q v is = let h = runs_halves p (path_runs is) in stands_at f.bo
 
 -- ---- cleared functions
 
-assigned_gives : (h : Head) (r : ℕ) → assigned_register h ≡ Some r → gives h ≡ Some r
+pub assigned_gives : (h : Head) (r : ℕ) → assigned_register h ≡ Some r → gives h ≡ Some r
 assigned_gives Skip r e = absurd (none-some r e)
 assigned_gives (Copy k a) r e = e
 assigned_gives (Compute k op a b) r e = e

@@ -3,7 +3,7 @@ use Rattle.std.proofs.Common.{◌≡◌, ◌<◌, ℕ, ℤ, Bool, true, false, n
 use Rattle.std.specs.Prelude.{◌↔◌}
 use Rattle.std.specs.List.{AllZip}
 use Rattle.std.specs.Option.{option_map_or}
-use Rattle.std.proofs.lemmas.Bool.{false≢true, and_parts, and_from, or_cases, or_left, or_right, eqb-true, eq-eqb, both_ways}
+use Rattle.std.proofs.lemmas.Bool.{false≢true, and_parts, and_from, or_cases, or_left, or_right, eqb-true, eq-eqb, both_ways, not-true}
 use Rattle.std.proofs.lemmas.Bool.Decides.{Decides-int_eq}
 use Rattle.std.proofs.lemmas.Option.{none-some, same_Some}
 use Rattle.values_undef.specs.Arithmetic.{result_of}
@@ -116,10 +116,6 @@ module _ (known : ℕ → Atom → Type 0) (row : List KnownPair) (is : (r : ℕ
 
 -- ---- what may go
 
-no_of : (b : Bool) → not b ≡ true → b ≡ false
-no_of true e = absurd (false≢true e)
-no_of false e = refl
-
 record MayGo (live : List ℕ) (old : Head) : Type 0 where
   r : ℕ
   assigns : assigned_register old ≡ Some r
@@ -130,7 +126,7 @@ may_go_true live old e = go (assigned_register old) refl e
   where
     go : (o : Option ℕ) → assigned_register old ≡ o → option_map_or (λ r. not (has r live)) o false ≡ true → MayGo live old
     go None a k = absurd (false≢true k)
-    go (Some r) a k = record { r = r; assigns = a; dead = no_of (has r live) k }
+    go (Some r) a k = record { r = r; assigns = a; dead = not-true (has r live) k }
 
 -- ---- a statement
 

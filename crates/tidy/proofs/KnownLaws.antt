@@ -8,7 +8,7 @@ use Rattle.il_paths.specs.Code.{Visit, placed}
 use Rattle.il_paths.specs.Meets.{IsMeetBefore, IsMeetThrough}
 use Rattle.path_meets.specs.Chain.{must_rank}
 use Rattle.path_meets.specs.Walks.{table}
-use Rattle.path_meets.proofs.Callers.{table_least, exit_least, table-placed, exit-placed}
+use Rattle.path_meets.proofs.Callers.{table_least, exit_least, table-placed, exit-placed, yes_of}
 use Rattle.tidy.specs.declared.known.KnownPair.{KnownPair}
 use Rattle.tidy.specs.Known.{makes, touches, known_change, known_step, known_at_entry, known_after, IsKnown, IsKnownAtEnd}
 use Rattle.tidy.specs.Rows.{known_in, known_column, exit_known, table_known, AreKnownRows, IsLastRow}
@@ -21,10 +21,6 @@ steady_or : (p q a b : Bool) → must_rank a ≤ must_rank b → must_rank (p ||
 steady_or true q a b h = omega arith
 steady_or false true a b h = h
 steady_or false false a b h = omega arith
-
-yes_of : (b : Bool) → 1 ≤ must_rank b → b ≡ true
-yes_of true k = refl
-yes_of false k = absurd (omega arith)
 
 at_column : (r : ℕ) (a : Atom) (rows : List (List KnownPair)) (site : ℕ) → get_or (known_column r a rows) site false ≡ known_in (get_or rows site []) r a
 at_column r a [] site = refl

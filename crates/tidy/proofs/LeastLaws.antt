@@ -6,7 +6,7 @@ use Rattle.il_syntax.specs.declared.statement.Atom.{Atom}
 use Rattle.il_syntax.specs.declared.program.Function.{Function}
 use Rattle.il_paths.specs.Atoms.{atoms_equal, AtMost, comes_first, first_of}
 use Rattle.il_paths.specs.Tree.{tree_of, sites_of}
-use Rattle.il_paths.proofs.Callers.{atoms_equal-true, atoms_equal-refl, at_most_self, at_most_trans, lower_is}
+use Rattle.il_paths.proofs.Callers.{atoms_equal-true, atoms_equal-refl, at_most_self, at_most_trans, lower_is, first_is_least}
 use Rattle.tidy.specs.declared.known.KnownPair.{KnownPair}
 use Rattle.tidy.specs.Known.{IsKnown, IsKnownAtEnd}
 use Rattle.tidy.specs.Propagated.{IsLeast}
@@ -17,15 +17,6 @@ use Rattle.tidy.specs.Least.{least_in, least_at}
 pub least_by : (P Q : Atom → Type 0) (o : Option Atom) → ((a : Atom) → P a → Q a) → ((a : Atom) → Q a → P a) → IsLeast P o → IsLeast Q o
 least_by P Q None f g h = λ a q. h a (g a q)
 least_by P Q (Some b) f g h = (f b h.0, λ a q. h.1 a (g a q))
-
--- the first of two comes no later than either
-first_is_least : (a : Atom) (o : Option Atom) → AtMost (first_of a o) a
-first_is_least a None = at_most_self a
-first_is_least a (Some b) = go (lower_is a b)
-  where
-    go : ((first_of a (Some b) ≡ a) × AtMost a b) ⊎ ((first_of a (Some b) ≡ b) × AtMost b a) → AtMost (first_of a (Some b)) a
-    go (inl h) = subst (λ (c : Atom). AtMost c a) (sym h.0) (at_most_self a)
-    go (inr h) = subst (λ (c : Atom). AtMost c a) (sym h.0) h.1
 
 first_is_below : (a b : Atom) → AtMost (first_of a (Some b)) b
 first_is_below a b = go (lower_is a b)

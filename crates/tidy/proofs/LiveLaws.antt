@@ -1,7 +1,7 @@
 -- The least of what the paths from a site say of a register is whether it is live there.
 use Rattle.std.proofs.Common.{◌≡◌, ◌≤◌, ℕ, Bool, true, false, not, ◌&&◌, ◌||◌, eqb, List, [], ◌∷◌, get_or, Option, Some, None, refl, sym, ap, ◌∙◌, subst, ⊎_elim, arith}
 use Rattle.std.specs.Option.{option_map_or}
-use Rattle.std.proofs.lemmas.Bool.{false≢true, or_cases, and_parts, or_left, or_right, eq-eqb, both_ways, not_from_false, and_from, ne_eqb}
+use Rattle.std.proofs.lemmas.Bool.{or_cases, and_parts, or_left, or_right, eq-eqb, both_ways, not_from_false, and_from, ne_eqb, not-true}
 use Rattle.std.proofs.lemmas.Option.{none-some, same_Some}
 use Rattle.il_syntax.specs.declared.statement.Atom.{Atom}
 use Rattle.il_syntax.specs.declared.statement.Atom.TheVariants.{Reg}
@@ -46,10 +46,6 @@ not_gives : (o : Option ℕ) (r : ℕ) → (o ≡ Some r → ⊥) → option_map
 not_gives None r h = refl
 not_gives (Some k) r h = ne_eqb k r (λ e. h (ap Some e))
 
-is_false : (b : Bool) → not b ≡ true → b ≡ false
-is_false true e = absurd (false≢true e)
-is_false false e = refl
-
 abbrev step : ℕ → Visit → Bool → Bool
 step r v later = live_change r v.head later
 
@@ -60,7 +56,7 @@ says_wanted r result end h (v ∷ q) e =
     ⊎_elim (λ (p : reads_register r v.head ≡ true). is_read p)
     (λ (p : (not (option_map_or (λ k. eqb k r) (gives v.head) false) && fold_backward (step r) q end) ≡ true).
     let parts = and_parts _ _ p in
-    is_kept (gives_not (gives v.head) r (is_false _ parts.0)) (says_wanted r result end h q parts.1))
+    is_kept (gives_not (gives v.head) r (not-true _ parts.0)) (says_wanted r result end h q parts.1))
     (or_cases _ _ e)
 
 -- and one that wants it says yes

@@ -1,6 +1,6 @@
 -- Rows with a pair more, and without some.
 use Rattle.std.proofs.Common.{◌≡◌, ℕ, Bool, true, false, not, ◌&&◌, ◌||◌, eqb, List, [], ◌∷◌, ◌++◌, Some, refl, sym, ap, ◌∙◌, ⊎_elim}
-use Rattle.std.proofs.lemmas.Bool.{false≢true, and_parts, or_cases, eqb-true}
+use Rattle.std.proofs.lemmas.Bool.{false≢true, and_parts, or_cases, eqb-true, or_parts}
 use Rattle.std.specs.List.{list_any}
 use Rattle.il_syntax.specs.declared.statement.Atom.{Atom}
 use Rattle.il_paths.specs.Atoms.{atoms_equal}
@@ -8,10 +8,6 @@ use Rattle.tidy.specs.declared.known.KnownPair.{KnownPair}
 use Rattle.tidy.specs.Known.{touches}
 use Rattle.tidy.specs.Rows.{is_pair, known_in}
 use Rattle.il_paths.proofs.Callers.{atoms_equal-true}
-
-or_none : (b c : Bool) → (b || c) ≡ false → (b ≡ false) × (c ≡ false)
-or_none true c e = absurd (false≢true (sym e))
-or_none false c e = (refl, e)
 
 -- a pair put to the end
 pub known-push : (row : List KnownPair) (pair : KnownPair) (r : ℕ) (a : Atom) → known_in (row ++ pair ∷ []) r a ≡ (known_in row r a || is_pair r a pair)
@@ -59,7 +55,7 @@ module _ (test : ℕ → Atom → Bool) (pair : KnownPair) (r : ℕ) (a : Atom) 
 unnamed : (row : List KnownPair) (k r : ℕ) (a : Atom) → list_any (λ pair. touches pair.r pair.a (Some k)) row ≡ false → known_in row r a ≡ true → touches r a (Some k) ≡ false
 unnamed [] k r a e h = absurd (false≢true h)
 unnamed (p ∷ row) k r a e h =
-    let parts = or_none (touches p.r p.a (Some k)) (list_any (λ pair. touches pair.r pair.a (Some k)) row) e in
+    let parts = or_parts (touches p.r p.a (Some k)) (list_any (λ pair. touches pair.r pair.a (Some k)) row) e in
     ⊎_elim
     (λ (m : is_pair r a p ≡ true). let same = and_parts (eqb p.r r) (atoms_equal a p.a) m in (λ i. touches (sym (eqb-true p.r r same.0) i) (atoms_equal-true a p.a same.1 i) (Some k)) ∙ parts.0)
     (λ (m : known_in row r a ≡ true). unnamed row k r a parts.1 m) (or_cases (is_pair r a p) (known_in row r a) h)

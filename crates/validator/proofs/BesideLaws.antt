@@ -69,7 +69,7 @@ is_insertion : Role → Bool
 is_insertion Inserted = true
 is_insertion _ = false
 
-same_inserted : Same ≡ Inserted → ⊥
+pub same_inserted : Same ≡ Inserted → ⊥
 unfolding is_insertion
 same_inserted e = false≢true (ap is_insertion e)
 

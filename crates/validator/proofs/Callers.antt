@@ -8,4 +8,5 @@ pub use Rattle.validator.proofs.FirstFaults.{one_first_fault, one_first_refused,
 pub use Rattle.validator.proofs.JudgeLaws.{if_ok}
 pub use Rattle.validator.proofs.FaultLaws.{same_turned}
 pub use Rattle.validator.proofs.EachJudged.{same_removed}
-pub use Rattle.validator.proofs.BesideLaws.{removed_inserted, load_register}
+pub use Rattle.validator.proofs.BesideLaws.{removed_inserted, load_register, same_inserted}
+pub use Rattle.validator.proofs.MergedLaws.{same_kept}

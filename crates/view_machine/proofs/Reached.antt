@@ -98,7 +98,7 @@ run_reached p s (e ∷ more) ok r h =
     run_reached p (after_entry p s e) more ok
     (event_reached p (after_silent p e.thread e.silent s) e.thread e.event (is_spend e.event) ok (silent_reached p e.thread e.silent s ok r h.0.silent) h.0.event) h.1
 
-length_values : (locations : List Location) → length (declared_values locations) ≡ length locations
+pub length_values : (locations : List Location) → length (declared_values locations) ≡ length locations
 length_values locations = length-map locations (λ l. l.value)
 
 -- the memory's initial state, with the numbers of locations
