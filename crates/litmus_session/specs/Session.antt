@@ -50,7 +50,7 @@ are_met expectations outcomes = list_all (λ e. is_met e outcomes) expectations
 
 -- The table of the target of the passes is written, and whether each expectation is met by its outcomes; and it is told whether
 -- all are.
-pub record IsJudged (given : Program) (expectations : List Expected) (seed seeds steps : ℕ) (text : Text) (met : Bool) : Type 0 where
+pub record IsJudgedTable (given : Program) (expectations : List Expected) (seed seeds steps : ℕ) (text : Text) (met : Bool) : Type 0 where
   pub target : Program
   pub samples : List Sample
   pub rows : Text
@@ -63,5 +63,5 @@ pub record IsJudged (given : Program) (expectations : List Expected) (seed seeds
 -- The answer: the first refusal of the input, or what is written of its program and its expectations.
 pub data IsLitmusSession (input : Text) (seed seeds steps : ℕ) (answer : LitmusAnswer) : Type 0 where
   unread : (r : Refusal LitmusRule) → IsFirstLitmusRefusal input r → answer ≡ Refused r.rule r.line r.column → IsLitmusSession input seed seeds steps answer
-  judged : (p : Program) (expectations : List Expected) (text : Text) (met : Bool) → ReadsLitmus input p expectations → IsJudged p expectations seed seeds steps text met
+  judged : (p : Program) (expectations : List Expected) (text : Text) (met : Bool) → ReadsLitmus input p expectations → IsJudgedTable p expectations seed seeds steps text met
       → answer ≡ Judged text met → IsLitmusSession input seed seeds steps answer

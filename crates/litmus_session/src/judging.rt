@@ -1,7 +1,7 @@
 //! Expectations, judged by the outcomes of a table.
 ghost use Rattle.std.specs.Prelude.{◌≡◌, ◌++◌, IfOk, OnOk};
 ghost use Rattle.il_syntax.specs.WellFormed.{IsWellFormed};
-ghost use Rattle.litmus_session.specs.Session.{HasLitmusCondition, IsJudged, are_met, verdict_lines};
+ghost use Rattle.litmus_session.specs.Session.{HasLitmusCondition, IsJudgedTable, are_met, verdict_lines};
 
 use crate::outcomes::{Written, rows};
 use il_syntax::Program;
@@ -51,7 +51,7 @@ pub(crate) fn judged<M: MessageMemory, R: Threads + Sync>(
 ) -> Result<Judgement, NoMemory>
     requires well_formed { IsWellFormed given.now }
     requires condition { HasLitmusCondition seed seeds steps }
-    ensures { IfOk result (λ j. IsJudged given.now expectations.now seed seeds steps j.text.items j.met) }
+    ensures { IfOk result (λ j. IsJudgedTable given.now expectations.now seed seeds steps j.text.items j.met) }
 {
     let chain = optimised(alloc, rt, given)?;
     let samples = litmus::<M, R>(rt, alloc, target(&chain), seed, seeds, steps)?;

@@ -17,19 +17,21 @@ module _ (one other : List ℕ) (s t : Status) where
   fixed_by a b (same is) x y = written_once a x (subst (λ (c : LitmusAnswer). IsWrittenLitmus c other t) (sym is) y)
   fixed_by a b (same_table given target samples rows other_rows verdicts met told other_told is other_is) x y =
       let h = subst (λ (c : LitmusAnswer). IsWrittenLitmus c one s) is x in
-      let k = subst (λ (c : LitmusAnswer). IsWrittenLitmus c other t) other_is y in
-      (inr (record {
-        given = given;
-        target = target;
-        samples = samples;
-        rows = rows;
-        other_rows = other_rows;
-        verdicts = verdicts;
-        told = told;
-        other_told = other_told;
-        one_is = h.0;
-        other_is = k.0;
-      }), h.1 ∙ sym k.1)
+      let k = subst (λ (c : LitmusAnswer). IsWrittenLitmus c other t) other_is y in (
+        inr (record {
+          given = given;
+          target = target;
+          samples = samples;
+          rows = rows;
+          other_rows = other_rows;
+          verdicts = verdicts;
+          told = told;
+          other_told = other_told;
+          one_is = h.0;
+          other_is = k.0;
+        }),
+        h.1 ∙ sym k.1,
+      )
 
 pub litmus_tells_one_table : LitmusTellsOneTable
 litmus_tells_one_table seed seeds steps bytes one other s t x y =

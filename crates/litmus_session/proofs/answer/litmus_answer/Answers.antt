@@ -1,4 +1,3 @@
-use Rattle.litmus_session.specs.Session.{IsJudged}
 use Rattle.litmus_session.proofs.Judged.{answer_judged, answer_refused}
 use Rattle.litmus_session.proofs.answer.litmus_answer.Goals as goal
 

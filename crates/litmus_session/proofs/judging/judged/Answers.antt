@@ -1,4 +1,4 @@
-use Rattle.std.proofs.Common.{◌≡◌, ◌∙◌, List, sym, subst}
+use Rattle.std.proofs.Common.{◌∙◌, List, sym, subst}
 use Rattle.std.specs.List.{All}
 use Rattle.il_syntax.specs.WellFormed.{IsWellFormed}
 use Rattle.view_machine.specs.Runs.{IsJournalRun}

@@ -1,4 +1,4 @@
-use Rattle.std.proofs.Common.{◌≡◌, ◌∙◌, ap, sym}
+use Rattle.std.proofs.Common.{◌∙◌, ap}
 use Rattle.litmus_session.proofs.RowTexts.{all_more, and_then, and_else, verdicts_more}
 use Rattle.litmus_text.specs.Expectation.{Expected}
 use Rattle.litmus_text.specs.Output.{is_met}

@@ -1,8 +1,7 @@
-use Rattle.std.proofs.Common.{◌≡◌, ◌∙◌, List, ◌++◌, ◌∷◌, [], ap, sym, subst, rules}
+use Rattle.std.proofs.Common.{subst, rules}
 use Rattle.reports.specs.Targets.{target_program}
-use Rattle.litmus.specs.Outcome.{EndAndOutputs}
 use Rattle.litmus.specs.declared.table.Sample.{Sample}
-use Rattle.litmus_session.specs.Session.{IsRowText, outcome_of_row}
+use Rattle.litmus_session.specs.Session.{IsRowText}
 use Rattle.litmus_session.proofs.RowTexts.{outcomes_more, rows_more}
 use Rattle.litmus_session.proofs.outcomes.rows.Goals as goal
 
