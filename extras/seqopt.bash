@@ -2,7 +2,7 @@
 _seqopt() {
   local word=${COMP_WORDS[COMP_CWORD]} options=
   if ((COMP_CWORD == 1)); then
-    options='check opt tidy validate seq walk run replay graph gen'
+    options='check opt tidy validate seq walk run replay graph litmus gen'
   elif [[ ${COMP_WORDS[COMP_CWORD - 1]} == --form ]]; then
     options='text summary'
   elif [[ $word == -* ]]; then
@@ -10,6 +10,7 @@ _seqopt() {
       seq) options='--function' ;;
       tidy | walk) options='--order --picks --seed --steps' ;;
       run) options='--seed --steps' ;;
+      litmus) options='--seed --seeds --steps' ;;
       gen) options='--number --functions --form' ;;
     esac
   fi

@@ -66,6 +66,22 @@ class Runner:
         end = next(k for k in range(begin, len(lines)) if lines[k].startswith("end "))
         return [line.split() for line in lines[begin:end]], lines[end][4:], lines[lines.index("outputs") + 1:-1]
 
+    def litmus(self, seed, seeds):
+        """The outcomes of so many seeds: of each how many of them have it, the least, its entries and its ending."""
+        words = ["litmus", "--steps", self.steps, "--seed", str(seed), "--seeds", str(seeds)]
+        got = subprocess.run([self.program, *words], input=self.text, stdout=subprocess.PIPE, check=False)
+        answer = got.stdout.decode("latin-1")
+        if got.returncode != 0:
+            print(answer.strip() or f"status {got.returncode}", file=sys.stderr)
+            sys.exit(got.returncode)
+        found = []
+        for part in ("\n" + answer).split("\noutcome ")[1:]:
+            lines = part.rstrip("\n").split("\n")
+            count, least = map(int, lines[0].split())
+            entries = lines[lines.index("journal") + 1:lines.index("source")]
+            found.append((count, least, [line.split() for line in entries], lines[1][4:]))
+        return found
+
     def alone(self, order, picks, thread, pick):
         """What the thread does behind this beginning, whose turns all make an entry, if it goes on alone: with this pick, and then 0."""
         turns = (order + [thread] * 32)[:4096]

@@ -11,6 +11,7 @@ mod graphing;
 mod optimising;
 mod replaying;
 pub(crate) mod running;
+mod sampling;
 mod sequencing;
 mod tidying;
 mod validating;
@@ -34,7 +35,8 @@ pub(crate) fn limit(command: &Command) -> Option<u64>
         | Command::Opt
         | Command::Tidy { .. }
         | Command::Walk { .. }
-        | Command::Run { .. } => Some(TEXT_LIMIT),
+        | Command::Run { .. }
+        | Command::Litmus { .. } => Some(TEXT_LIMIT),
         Command::Validate | Command::Seq { .. } => Some(4_194_304),
         Command::Replay | Command::Graph => Some(134_217_728),
         Command::Gen { .. } => None,
@@ -72,6 +74,9 @@ pub(crate) fn output_of<R: Threads + Sync>(
         Command::Run { .. } => unreachable!(),
         Command::Replay => replaying::output(alloc, input),
         Command::Graph => graphing::output(alloc, input),
+        Command::Litmus { seed, seeds, steps } => {
+            sampling::output(alloc, rt, *seed, *seeds, *steps, input)
+        }
         Command::Gen {
             number,
             functions,

@@ -38,6 +38,9 @@ replay_words = (codes "replay", [])
 abbrev pub graph_words : CommandWords
 graph_words = (codes "graph", [])
 
+abbrev pub litmus_words : CommandWords
+litmus_words = (codes "litmus", (codes "seed", false) ∷ ((codes "seeds", false) ∷ ((codes "steps", false) ∷ [])))
+
 abbrev pub gen_words : CommandWords
 gen_words = (codes "gen", (codes "number", true) ∷ ((codes "functions", false) ∷ ((codes "form", false) ∷ [])))
 
@@ -52,5 +55,6 @@ commands =
     ∷ (run_words
     ∷ (replay_words
     ∷ (graph_words
+    ∷ (litmus_words
     ∷ (gen_words
-    ∷ [])))))))))
+    ∷ []))))))))))

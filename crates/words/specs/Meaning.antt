@@ -1,12 +1,12 @@
 -- The command that words mean.
 use Rattle.std.specs.Prelude.{◌≡◌, ℕ, true, List, [], ◌∷◌, Option, Some, None, codes}
 use Rattle.il_syntax.specs.Name.{is_word}
-use Rattle.words.specs.Commands.{CommandWords, check_words, gen_words, graph_words, opt_words, replay_words, run_words, seq_words, tidy_words, validate_words, walk_words}
+use Rattle.words.specs.Commands.{CommandWords, check_words, gen_words, graph_words, litmus_words, opt_words, replay_words, run_words, seq_words, tidy_words, validate_words, walk_words}
 use Rattle.words.specs.Numbers.{IsNumber, AreNumbers}
 use Rattle.words.specs.Options.{AllowsSettings, Options, value_of}
 use Rattle.words.specs.Spelling.{Setting, SpellsSettings, WordText}
 use Rattle.words.specs.declared.command.Command.{Command}
-use Rattle.words.specs.declared.command.Command.TheVariants.{Check, Gen, Graph, Opt, Replay, Run, Seq, Tidy, Validate, Walk}
+use Rattle.words.specs.declared.command.Command.TheVariants.{Check, Gen, Graph, Litmus, Opt, Replay, Run, Seq, Tidy, Validate, Walk}
 use Rattle.words.specs.declared.command.Drawing.{Drawing}
 use Rattle.words.specs.declared.command.Drawing.TheVariants.{Seed, Picks}
 use Rattle.words.specs.declared.command.Form.{Form}
@@ -52,6 +52,18 @@ GivesSeed settings seed = GivesNumber 0 18446744073709551615 0 (value_of (codes 
 -- from 1 to 16384, and 1000 where it is left out
 abbrev pub GivesSteps : List Setting → ℕ → Type 0
 GivesSteps settings steps = GivesNumber 1 16384 1000 (value_of (codes "steps") settings) steps
+
+-- up to 2^63 - 1, and 0 where it is left out
+abbrev pub GivesFirstSeed : List Setting → ℕ → Type 0
+GivesFirstSeed settings seed = GivesNumber 0 9223372036854775807 0 (value_of (codes "seed") settings) seed
+
+-- from 1 to 500, and 100 where it is left out
+abbrev pub GivesSeeds : List Setting → ℕ → Type 0
+GivesSeeds settings seeds = GivesNumber 1 500 100 (value_of (codes "seeds") settings) seeds
+
+-- from 1 to 100, and 100 where it is left out
+abbrev pub GivesFewSteps : List Setting → ℕ → Type 0
+GivesFewSteps settings steps = GivesNumber 1 100 100 (value_of (codes "steps") settings) steps
 
 -- numbers of threads up to 15, and the empty list where it is left out
 abbrev pub GivesOrder : List Setting → List ℕ → Type 0
@@ -105,6 +117,7 @@ in_words (Walk order draws steps) = record { words = walk_words; gives = λ sett
 in_words (Run seed steps) = record { words = run_words; gives = λ settings. GivesSeed settings seed × GivesSteps settings steps }
 in_words Replay = without_values replay_words
 in_words Graph = without_values graph_words
+in_words (Litmus seed seeds steps) = record { words = litmus_words; gives = λ settings. GivesFirstSeed settings seed × GivesSeeds settings seeds × GivesFewSteps settings steps }
 in_words (Gen number functions form) = record { words = gen_words; gives = λ settings. GivesProgramNumber settings number × GivesFunctions settings functions × GivesForm settings form }
 
 abbrev pub name_of : Command → WordText

@@ -60,6 +60,13 @@ pub enum Command {
     Replay,
     /// Tell the execution graph of the journal of a run.
     Graph,
+    /// Sample the outcomes of a program: the first of the seeds that are sampled, how many they are, and how many steps each
+    /// thread of a run may make.
+    Litmus {
+        seed: u64,
+        seeds: u64,
+        steps: u64,
+    },
     /// Make a program of so many functions from a number.
     Gen {
         number: u64,

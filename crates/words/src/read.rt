@@ -226,6 +226,15 @@ fn run(settings: &ArgMatches) -> Result<Command, WordsFault>
     Ok(Command::Run { seed, steps })
 }
 
+fn litmus(settings: &ArgMatches) -> Result<Command, WordsFault>
+    ensures { (os : List Setting) → rows_of (found_of settings.now) ≡ map row_of os → ReadsCommand (codes "litmus") os result }
+{
+    let seed = number_or(settings, "seed", 0, 9223372036854775807, 0)?;
+    let seeds = number_or(settings, "seeds", 1, 500, 100)?;
+    let steps = number_or(settings, "steps", 1, 100, 100)?;
+    Ok(Command::Litmus { seed, seeds, steps })
+}
+
 /// The form of this word.
 fn form_of(word: &str) -> Result<Form, WordsFault>
     ensures { MatchResult result (IsFormOf (Some word.now))
@@ -276,6 +285,7 @@ fn command(alloc: Global, name: &str, settings: &ArgMatches) -> Result<Command, 
         "run" => run(settings),
         "replay" => Ok(Command::Replay),
         "graph" => Ok(Command::Graph),
+        "litmus" => litmus(settings),
         "gen" => generating(settings),
         _ => Err(WordsFault::Refused),
     }
@@ -303,6 +313,7 @@ fn has_dashes(words: &Words) -> bool
 /// - `tidy`: as for `walk`
 /// - `run`: `--seed` and `--steps`, as for `walk`
 /// - `replay`, `graph`
+/// - `litmus`: `--seed` (0 to 9223372036854775807, else 0), `--seeds` (1 to 500, else 100), `--steps` (1 to 100, else 100)
 /// - `gen`: `--number` (required, a number of 64 bits), `--functions` (1 to 256, else 4), `--form`
 ///   (`text` or `summary`, else `text`)
 pub fn read_words(alloc: Global, words: &Words) -> Result<Command, WordsFault>

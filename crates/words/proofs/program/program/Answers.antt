@@ -14,4 +14,5 @@ returns c =
     let seventh = c.in_ok-subcommand-7.ensures.shape c.in_ok-run.ensures.local ∙ ap₂ with_subcommand sixth (ap (λ (a : App). a.top) c.in_ok-run.ensures.app) in
     let eighth = c.in_ok-subcommand-8.ensures.shape c.plain-4.ensures.local ∙ ap₂ with_subcommand seventh (ap (λ (a : App). a.top) c.plain-4.ensures.app) in
     let ninth = c.in_ok-subcommand-9.ensures.shape c.plain-5.ensures.local ∙ ap₂ with_subcommand eighth (ap (λ (a : App). a.top) c.plain-5.ensures.app) in
-    IfOk-weaker c.subcommand-10.result _ _ (λ r h. h.shape c.in_ok-generating.ensures.local ∙ ap₂ with_subcommand ninth (ap (λ (a : App). a.top) c.in_ok-generating.ensures.app)) c.subcommand-10.ensures
+    let tenth = c.in_ok-subcommand-10.ensures.shape c.in_ok-litmus.ensures.local ∙ ap₂ with_subcommand ninth (ap (λ (a : App). a.top) c.in_ok-litmus.ensures.app) in
+    IfOk-weaker c.subcommand-11.result _ _ (λ r h. h.shape c.in_ok-generating.ensures.local ∙ ap₂ with_subcommand tenth (ap (λ (a : App). a.top) c.in_ok-generating.ensures.app)) c.subcommand-11.ensures

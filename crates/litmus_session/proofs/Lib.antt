@@ -1,0 +1,4 @@
+mod Fixed
+mod Judged
+mod RowTexts
+pub mod Callers
