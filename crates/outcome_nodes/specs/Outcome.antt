@@ -56,7 +56,7 @@ pub record IsOutcome (p : Program) (steps : ℕ) (o : FinalOutcome) : Type 0 whe
 
 -- each of the runs is complete for the budget, and each outcome is that of one of them
 pub record HaveAllOutcomes (p : Program) (steps : ℕ) (runs : List (List Entry)) : Type 0 where
-  pub runs : AllByRecursion (λ entries. IsJournalRun p entries × IsComplete p entries steps) runs
+  pub complete : AllByRecursion (λ entries. IsJournalRun p entries × IsComplete p entries steps) runs
   pub all : (o : FinalOutcome) → IsOutcome p steps o → Contains (map (final_outcome_of p) runs) o
 
 -- ---- what a node shows
