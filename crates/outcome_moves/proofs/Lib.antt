@@ -1,6 +1,7 @@
 mod Playing
 mod There
 mod Making
+mod Closing
 mod Ends
 mod Growing
 mod Small
