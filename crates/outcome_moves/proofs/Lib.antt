@@ -2,6 +2,7 @@ mod Playing
 mod There
 mod Making
 mod Closing
+mod Behind
 mod Ends
 mod Growing
 mod Small

@@ -15,6 +15,6 @@ mod standing;
 
 pub use all::moves_of;
 pub use ending::ended_run;
-pub use moves::{Move, end_in, try_move};
+pub use moves::{Move, end_in};
 pub use room::moved_entries;
 pub use standing::{What, next_there, stand};
