@@ -1,9 +1,9 @@
 -- Where a message is put in after room was made, it is legal where the next number is free without that room, and its event is told
 -- by the memory without the room.
 use Rattle.std.proofs.Common.{◌≡◌, ⊎_elim, ℕ, pos, ◌+◌, ◌<◌, ◌≤◌, max, min, Bool, true, false, cond, not, ◌&&◌, eqb, ltb, List, [], ◌∷◌, length, map, get_or, set, Option, None, Some, refl, sym, ap, ◌∙◌, subst, arith}
-use Rattle.std.specs.Prelude.{IsSome, IsTrue, IsSomeAnd}
+use Rattle.std.specs.Prelude.{IsSomeAnd}
 use Rattle.std.specs.Option.{unwrap_or, option_map}
-use Rattle.std.proofs.lemmas.Bool.{cases_lt, cases_Bool, cond-true, cond-false, lt-ltb, le-ltb, eq-eqb, ne_eqb, ltb-true, ltb-false, true≢false, false≢true}
+use Rattle.std.proofs.lemmas.Bool.{cases_lt, cond-true, cond-false, lt-ltb, le-ltb, eq-eqb, ne_eqb, true≢false, false≢true}
 use Rattle.std.proofs.lemmas.List.{get_or-set_same, set_past, get_or_past}
 use Rattle.values_undef.specs.Access.{leaves_choice}
 use Rattle.values_undef.specs.declared.value.Val.{Val}
@@ -11,15 +11,12 @@ use Rattle.values_undef.specs.declared.access.Order.{Order}
 use Rattle.values_undef.specs.declared.access.UpdateKind.{UpdateKind}
 use Rattle.values_undef.specs.declared.access.Access.{Access}
 use Rattle.values_undef.specs.declared.access.Access.TheVariants.{NaRead, NaWrite, Read, Write, Update, Fence, Print, Fail, Finish, Spend}
-use Rattle.values_undef.specs.declared.access.Choice.{Choice}
 use Rattle.values_undef.specs.declared.access.Choice.TheVariants.{Plain, Message, Place, Take}
-use Rattle.values_undef.specs.declared.access.Event.{Event}
 use Rattle.values_undef.specs.declared.access.Event.TheVariants as event
 use Rattle.views.specs.ThreadView.{ThreadView}
 use Rattle.message_memory.specs.declared.message.Message.{Message as TheMessage}
 use Rattle.message_memory.specs.Memory.{Memory, Messages, messages, message_at, overlaps, is_free, view_index, first_message}
 use Rattle.message_memory.specs.Step.{AdmitsChoice, IsLegal, IsProper, StepResult, step_result, read_at, timestamp_in, succeeds, meets_undef, updated}
-use Rattle.message_memory.specs.Candidates.{location_of}
 use Rattle.memory_likeness.specs.Moved.{opened, moved, moved_view}
 use Rattle.memory_likeness.specs.Answering.{puts_in, made_room, view_with_room, choice_behind}
 use Rattle.memory_likeness.proofs.Callers.{moved_message, messages_moved}

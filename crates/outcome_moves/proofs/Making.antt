@@ -1,11 +1,10 @@
 -- An access that is tried where a run ends.
-use Rattle.std.proofs.Common.{◌≡◌, ◌⊎◌, inl, inr, ⊎_elim, ℕ, ◌+◌, ◌-◌, ◌<◌, ◌≤◌, Bool, true, false, cond, eqb, ◌&&◌, List, [], ◌∷◌, ◌++◌, length, map, get_or, None, refl, sym, ap, ◌∙◌, subst, arith}
+use Rattle.std.proofs.Common.{◌≡◌, ◌⊎◌, inl, inr, ⊎_elim, ℕ, ◌+◌, ◌<◌, ◌≤◌, Bool, true, false, cond, eqb, ◌&&◌, List, [], ◌∷◌, ◌++◌, length, map, get_or, None, refl, sym, ap, ◌∙◌, subst, arith}
 use Rattle.std.specs.Prelude.{◌||◌, IsSome}
 use Rattle.std.specs.List.{AllByRecursion}
 use Rattle.std.proofs.lemmas.Bool.{cases_Bool, cond-true, cond-false, cond_both, eq-eqb, true≢false, false≢true}
 use Rattle.std.proofs.lemmas.List.{length-map, length-append, get_or-map}
 use Rattle.values_undef.specs.Access.{leaves_choice, is_failure, is_spend}
-use Rattle.values_undef.specs.Journal.{used_steps}
 use Rattle.values_undef.specs.declared.access.Access.{Access}
 use Rattle.values_undef.specs.declared.access.Choice.{Choice}
 use Rattle.values_undef.specs.declared.access.Choice.TheVariants.{Plain}
@@ -20,27 +19,23 @@ use Rattle.message_memory.specs.Step.{IsLegal, IsProper, step_result}
 use Rattle.thread_core.specs.declared.next.Next.{Next}
 use Rattle.thread_core.specs.declared.next.Next.TheVariants as next
 use Rattle.thread_core.specs.Programs.{IsProperProgram, IsProperAccess}
-use Rattle.thread_core.specs.Frames.{Stack, next_of}
-use Rattle.thread_core.specs.Alone.{HasSilent, local_after_silent}
 use Rattle.view_machine.specs.declared.stepped.Stepped.{Stepped}
 use Rattle.view_machine.specs.declared.stepped.Stepped.TheVariants as stepped
-use Rattle.view_machine.specs.State.{State, StepTaken, local_in, view_in, next_in, idle, IsRunning, step_by, after_step}
-use Rattle.view_machine.specs.Runs.{after_silent, AreSilent}
+use Rattle.view_machine.specs.State.{State, StepTaken, view_in, next_in, step_by, after_step}
 use Rattle.view_machine.specs.Laws.{IsReached}
-use Rattle.view_machine.proofs.Callers.{proper_in, states_whole, silent_steps_local}
+use Rattle.view_machine.proofs.Callers.{proper_in, states_whole}
 use Rattle.run_choices.specs.Complete.{has_spent}
-use Rattle.memory_likeness.specs.Moved.{opened, moved}
+use Rattle.memory_likeness.specs.Moved.{opened}
 use Rattle.memory_likeness.specs.Answering.{puts_in, made_room, view_with_room, choice_behind}
 use Rattle.outcome_nodes.specs.Moved.{moved_entry}
 use Rattle.outcome_nodes.specs.Nodes.{Node, Asks, IsMove}
 use Rattle.outcome_nodes.specs.Standing.{node_of, IsNodeRun, GoesOnBy, FailsBy}
-use Rattle.outcome_nodes.proofs.Callers.{silent_has, has_steps, IsPrepared, prepared_moved, prepared_same, entry_of_access, steps_are, is_legal, is_move, goes_on, fails_in}
+use Rattle.outcome_nodes.proofs.Callers.{IsPrepared, prepared_moved, prepared_same, entry_of_access, is_legal, is_move, goes_on, fails_in}
 use Rattle.outcome_moves.specs.Room.{largest_stamp, AreSmall}
 use Rattle.outcome_moves.specs.Behind.{event_behind, choice_close}
 use Rattle.outcome_moves.specs.Moves.{last_state, silent_there}
 use Rattle.outcome_moves.proofs.Small.{room_small, made_small, one_small}
 use Rattle.outcome_moves.proofs.Behind.{legal_close, legal_opened, event_same, plain_legal, plain_choice, plain_puts}
-use Rattle.outcome_moves.proofs.There.{running_there}
 
 -- ---- no thread ends for want of steps
 

@@ -2,7 +2,6 @@ use Rattle.std.proofs.Common.{rules, ◌≡◌, false}
 use Rattle.values_undef.specs.Access.{leaves_choice}
 use Rattle.outcome_nodes.specs.Nodes.{Asks}
 use Rattle.outcome_nodes.specs.Standing.{node_of}
-use Rattle.outcome_moves.specs.Moves.{IsWhat}
 use Rattle.outcome_moves.proofs.Growing.{grows_none, none_asked, all_anywhere, has_last}
 use Rattle.outcome_moves.proofs.all.add_moves.Goals as goal
 

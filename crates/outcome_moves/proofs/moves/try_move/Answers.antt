@@ -1,15 +1,11 @@
 use Rattle.std.proofs.Common.{rules, ◌≡◌, get_or, refl}
-use Rattle.std.specs.Prelude.{IsSome, IsTrue}
-use Rattle.values_undef.specs.declared.access.Choice.{Choice}
+use Rattle.std.specs.Prelude.{IsSome}
 use Rattle.views.specs.ThreadView.{no_view}
 use Rattle.message_memory.specs.Memory.{messages, message_at}
 use Rattle.message_memory.specs.Candidates.{location_of}
 use Rattle.message_memory.specs.Step.{IsLegal}
-use Rattle.view_machine.specs.State.{view_in}
-use Rattle.memory_likeness.specs.Moved.{opened}
 use Rattle.memory_likeness.specs.Answering.{puts_in}
-use Rattle.outcome_nodes.specs.Moved.{moved_entry}
-use Rattle.outcome_moves.specs.Behind.{event_behind, choice_close}
+use Rattle.outcome_moves.specs.Behind.{event_behind}
 use Rattle.outcome_moves.specs.Moves.{last_state}
 use Rattle.outcome_moves.proofs.Making.{legal_there, far_there, tried_far, tried_close}
 use Rattle.outcome_moves.proofs.moves.try_move.Goals as goal
