@@ -18,7 +18,9 @@ use Rattle.memory_likeness.specs.Answering.{made_room, view_with_room, choice_be
 use Rattle.outcome_nodes.specs.Nodes.{Node, view_at, Asks, IsMove, result_at, after_move, IsFinished, IsSpent}
 use Rattle.outcome_nodes.specs.Standing.{node_of, IsNodeRun, GoesOnBy, FailsBy}
 use Rattle.outcome_moves.specs.Ends.{end_in, HasEnd}
-use Rattle.outcome_moves.specs.Moves.{IsMoved, IsSmallMove, HasMove, HasMovesOf, IsSomeMove, GrowsBy}
+use Rattle.outcome_moves.specs.Moves.{IsWhat, IsMoved, IsSmallMove, HasMove, HasMovesOf, IsSomeMove, GrowsBy}
+use Rattle.outcome_moves.specs.declared.standing.What.{What}
+use Rattle.outcome_moves.specs.declared.standing.What.TheVariants as what
 use Rattle.outcome_moves.specs.declared.moves.Move.{Move}
 use Rattle.outcome_moves.proofs.Playing.{same_access}
 use Rattle.outcome_moves.proofs.Ends.{ends_found}
@@ -56,6 +58,12 @@ finished_asks steps n i a f q = q.unfinished (same_access a Finish (sym q.next �
 
 pub spent_asks : (steps : ℕ) (n : Node) (i : ℕ) (a : Access) → IsSpent steps n i → Asks steps n i a → ⊥
 spent_asks steps n i a f q = omega (arith, f.used, q.left)
+
+-- a thread that asks for none has no moves
+pub none_asked : (p : Program) (steps : ℕ) (entries : List Entry) (i : ℕ) (moves : List Move) (x : What) → IsWhat p steps entries i x → ((a : Access) → x ≡ what.Asks a → ⊥) → HasMovesOf p steps (node_of p steps entries) moves i
+none_asked p steps entries i moves (what.Asks a) w h = absurd (h a refl)
+none_asked p steps entries i moves what.Finished w h = λ a b asks move. absurd (finished_asks steps (node_of p steps entries) i a w asks)
+none_asked p steps entries i moves what.Spent w h = λ a b asks move. absurd (spent_asks steps (node_of p steps entries) i a w asks)
 
 -- ---- an access that leaves no choice is the same move everywhere
 

@@ -1,6 +1,8 @@
 mod Playing
 mod There
 mod Making
+mod Closing
+mod Behind
 mod Ends
 mod Growing
 mod Small

@@ -1,13 +1,13 @@
 -- An access that is tried where a run ends.
-use Rattle.std.proofs.Common.{◌≡◌, ◌⊎◌, inl, inr, ⊎_elim, ℕ, ◌-◌, ◌<◌, ◌≤◌, Bool, true, false, cond, eqb, ◌&&◌, List, [], ◌∷◌, ◌++◌, length, map, get_or, None, refl, sym, ap, ◌∙◌, subst, arith}
-use Rattle.std.specs.Prelude.{IsSome}
+use Rattle.std.proofs.Common.{◌≡◌, ◌⊎◌, inl, inr, ⊎_elim, ℕ, ◌+◌, ◌-◌, ◌<◌, ◌≤◌, Bool, true, false, cond, eqb, ◌&&◌, List, [], ◌∷◌, ◌++◌, length, map, get_or, None, refl, sym, ap, ◌∙◌, subst, arith}
+use Rattle.std.specs.Prelude.{◌||◌, IsSome}
 use Rattle.std.specs.List.{AllByRecursion}
-use Rattle.std.proofs.lemmas.Bool.{cases_Bool, cond-true, cond-false, cond_both, eq-eqb, false≢true, or_parts}
-use Rattle.std.proofs.lemmas.List.{length-map, get_or-set_same}
+use Rattle.std.proofs.lemmas.Bool.{cases_Bool, cond-true, cond-false, cond_both, eq-eqb, true≢false, false≢true, or_parts}
+use Rattle.std.proofs.lemmas.List.{length-map, length-append, get_or-map, get_or-set_same}
 use Rattle.values_undef.specs.Access.{leaves_choice, is_failure, is_spend}
-use Rattle.values_undef.specs.Journal.{used_steps}
 use Rattle.values_undef.specs.declared.access.Access.{Access}
 use Rattle.values_undef.specs.declared.access.Choice.{Choice}
+use Rattle.values_undef.specs.declared.access.Choice.TheVariants.{Plain}
 use Rattle.values_undef.specs.declared.access.Event.{Event}
 use Rattle.values_undef.specs.declared.access.Event.TheVariants as event
 use Rattle.values_undef.specs.declared.journal.Entry.{Entry}
@@ -19,23 +19,23 @@ use Rattle.message_memory.specs.Step.{IsLegal, IsProper, step_result}
 use Rattle.thread_core.specs.declared.next.Next.{Next}
 use Rattle.thread_core.specs.declared.next.Next.TheVariants as next
 use Rattle.thread_core.specs.Programs.{IsProperProgram, IsProperAccess}
-use Rattle.thread_core.specs.Frames.{Stack, next_of}
-use Rattle.thread_core.specs.Alone.{HasSilent, local_after_silent}
 use Rattle.view_machine.specs.declared.stepped.Stepped.{Stepped}
 use Rattle.view_machine.specs.declared.stepped.Stepped.TheVariants as stepped
-use Rattle.view_machine.specs.State.{State, StepTaken, local_in, view_in, next_in, idle, IsRunning, step_by, after_step}
-use Rattle.view_machine.specs.Runs.{after_silent, AreSilent}
+use Rattle.view_machine.specs.State.{State, StepTaken, view_in, next_in, step_by, after_step}
 use Rattle.view_machine.specs.Laws.{IsReached}
-use Rattle.view_machine.proofs.Callers.{proper_in, states_whole, silent_steps_local}
+use Rattle.view_machine.proofs.Callers.{proper_in, states_whole}
 use Rattle.run_choices.specs.Complete.{has_spent}
-use Rattle.memory_likeness.specs.Moved.{opened, moved}
-use Rattle.memory_likeness.specs.Answering.{puts_in, choice_behind}
+use Rattle.memory_likeness.specs.Moved.{opened}
+use Rattle.memory_likeness.specs.Answering.{puts_in, made_room, view_with_room, choice_behind}
 use Rattle.outcome_nodes.specs.Moved.{moved_entry}
 use Rattle.outcome_nodes.specs.Nodes.{Node, Asks, IsMove}
 use Rattle.outcome_nodes.specs.Standing.{node_of, IsNodeRun, GoesOnBy, FailsBy}
-use Rattle.outcome_nodes.proofs.Callers.{silent_has, has_steps, IsPrepared, prepared_moved, prepared_same, entry_of_access, steps_are, is_legal, is_move, goes_on, fails_in}
+use Rattle.outcome_nodes.proofs.Callers.{IsPrepared, prepared_moved, prepared_same, entry_of_access, is_legal, is_move, goes_on, fails_in}
+use Rattle.outcome_moves.specs.Room.{largest_stamp, AreSmall}
+use Rattle.outcome_moves.specs.Behind.{event_behind, choice_close}
 use Rattle.outcome_moves.specs.Moves.{last_state, silent_there}
-use Rattle.outcome_moves.proofs.There.{running_there}
+use Rattle.outcome_moves.proofs.Small.{room_small, made_small, one_small}
+use Rattle.outcome_moves.proofs.Behind.{legal_close, legal_opened, event_same, plain_legal, plain_choice, plain_puts}
 
 -- ---- no thread ends for want of steps
 
@@ -50,26 +50,7 @@ none_spends (e ∷ entries) h = (
   none_spends entries (λ j. (or_parts _ _ (h j)).1),
 )
 
--- ---- all silent steps are made
-
-pub all_silent : (p : Program) (k r : ℕ) (l : Stack) → HasSilent p k l → HasSilent p r l → r ≤ k → (next_of (local_after_silent p r l) ≡ next.Silent → r ≡ k) → r ≡ k
-all_silent p k r l all some few stop = sym (steps_are p r k l some few stop) ∙ steps_are p k k l all (omega arith) (λ _. refl)
-
--- so the thread stands at the access that it asks for
-pub ran : (p : Program) (u t v : State) (i k r : ℕ) (n : Next) (a : Access) → HasSilent p k (local_in u i) → IsRunning u i → next_of (local_after_silent p k (local_in u i)) ≡ next.Access a → t ≡ u → AreSilent p i r t → r ≤ k
-    → n ≡ next_in v i → (n ≡ next.Silent → r ≡ k) → v ≡ after_silent p i r t → next_in v i ≡ next.Access a
-ran p u t v i k r n a all running asks same silent few told stop led = next_local ∙ ap (λ (x : ℕ). next_of (local_after_silent p x (local_in u i))) made ∙ asks
-  where
-    has : HasSilent p r (local_in u i)
-    has = subst (λ (x : State). HasSilent p r (local_in x i)) same (silent_has p i r t silent)
-
-    next_local : next_in v i ≡ next_of (local_after_silent p r (local_in u i))
-    next_local =
-        ap (λ (x : State). next_in x i) (led ∙ ap (after_silent p i r) same ∙ (silent_steps_local p i r u running has).1)
-        ∙ ap (λ (x : Stack). next_of x) (get_or-set_same u.locals i (local_after_silent p r (local_in u i)) idle running.there)
-
-    made : r ≡ k
-    made = all_silent p k r (local_in u i) all has few (λ e. stop (told ∙ next_local ∙ e))
+-- ---- the machine and the state
 
 pub event_there : (u t : State) (i : ℕ) (a : Access) (c : Choice) → t.memory ≡ u.memory → t.views ≡ u.views → (step_result t.memory (view_in t i) i a c).event ≡ (step_result u.memory (view_in u i) i a c).event
 event_there u t i a c em ev =
@@ -78,6 +59,9 @@ event_there u t i a c em ev =
 pub legal_there : (u : State) (i : ℕ) (a : Access) (c : Choice) (m : Memory) (views : List ThreadView) → m ≡ u.memory → views ≡ u.views → IsLegal m (get_or views i no_view) a c → IsLegal u.memory (view_in u i) a c
 legal_there u i a c m views em ev h =
     subst (λ (x : Memory). IsLegal x (view_in u i) a c) em (subst (λ (w : List ThreadView). IsLegal m (get_or w i no_view) a c) ev h)
+
+pub far_there : (u : State) (i : ℕ) (a : Access) (c : Choice) (m : Memory) (views : List ThreadView) → m ≡ u.memory → views ≡ u.views → IsLegal u.memory (view_in u i) a c → IsLegal m (get_or views i no_view) a c
+far_there u i a c m views em ev h = subst (λ (w : List ThreadView). IsLegal m (get_or w i no_view) a c) (sym ev) (subst (λ (x : Memory). IsLegal x (view_in u i) a c) (sym em) h)
 
 -- ---- the event of a step
 
@@ -125,45 +109,32 @@ module _ (p : Program) (steps : ℕ) (entries : List Entry) (i : ℕ) (a : Acces
             subst (λ (ys : List Entry). IsPrepared p entries s a b ys (last_state p ys)) (sym e)
             (subst (IsPrepared p entries s a b xs) (sym q.run.state) q)
 
-    pub after_unspent : AllByRecursion (λ e. is_spend e.event ≡ false) after
-    after_unspent = none_spends after (λ j. prepared_there.spent j ∙ run.stands.unspent j)
-
     pub after_few : length after ≡ length entries
     after_few =
         ap (λ (xs : List Entry). length xs) made
         ∙ cond_both puts (map (moved_entry (location_of a) (opened b)) entries) entries (λ (xs : List Entry). length xs ≡ length entries) (λ _. length-map entries (moved_entry (location_of a) (opened b))) (λ _. refl)
 
-    going : (last_state p after).memory.failed ≡ false
-    going =
-        ap (λ (m : Memory). m.failed) prepared_there.memory
-        ∙ cond_both (puts_in s.memory a b) (moved s.memory (location_of a) (opened b)) s.memory (λ (m : Memory). m.failed ≡ false) (λ _. run.stands.running) (λ _. run.stands.running)
+    view_then : view_in (last_state p after) i ≡ view_with_room (last_state p entries).memory (view_in (last_state p entries) i) a b
+    view_then =
+        ap (λ (w : List ThreadView). get_or w i no_view) prepared_there.views
+        ∙ get_or-map (λ v. view_with_room (last_state p entries).memory v a b) s.views i no_view no_view (omega (arith, l, reached.threads, reached.views))
 
-    pub running_then : IsRunning (last_state p after) i
-    running_then =
-        let r = running_there p steps entries i ok run l in
-        record {
-          there = omega (arith, ap {B = ℕ} length prepared_there.locals, r.there);
-          going = ap (λ (x : List Bool). get_or x i true) prepared_there.ended ∙ r.going;
-          running = going;
-        }
+    opened_then : IsLegal (last_state p entries).memory (view_in (last_state p entries) i) a (choice_close (last_state p entries).memory a b) → IsLegal (last_state p after).memory (view_in (last_state p after) i) a (choice_behind (last_state p entries).memory a b)
+    opened_then h =
+        subst (λ (m : Memory). IsLegal m (view_in (last_state p after) i) a (choice_behind s.memory a b)) (sym prepared_there.memory)
+        (subst (λ (v : ThreadView). IsLegal (made_room s.memory a b) v a (choice_behind s.memory a b)) (sym view_then) (legal_opened s.memory (view_in s i) a b proper_there h))
 
-    local_then : local_in (last_state p after) i ≡ local_in s i
-    local_then = ap (λ (x : List Stack). get_or x i idle) prepared_there.locals
+    event_then : leaves_choice a ≡ true → (step_result (last_state p after).memory (view_in (last_state p after) i) i a (choice_behind (last_state p entries).memory a b)).event ≡ event_behind (last_state p entries).memory a b
+    event_then h =
+        ap (λ (m : Memory). (step_result m (view_in (last_state p after) i) i a (choice_behind s.memory a b)).event) prepared_there.memory
+        ∙ event_same s.memory (view_in (last_state p after) i) i a b proper_there h
 
-    pub silent_then : (k : ℕ) → k ≡ silent_there p steps entries i → HasSilent p k (local_in (last_state p after) i)
-    silent_then k e =
-        subst (λ (x : ℕ). HasSilent p x (local_in (last_state p after) i)) (sym e)
-        (subst (HasSilent p (silent_there p steps entries i)) (sym local_then) (has_steps p (steps - used_steps entries i) (local_in s i)))
-
-    pub asks_then : (k : ℕ) → k ≡ silent_there p steps entries i → next_of (local_after_silent p k (local_in (last_state p after) i)) ≡ next.Access a
-    asks_then k e =
-        ap (λ (x : ℕ). next_of (local_after_silent p x (local_in (last_state p after) i))) e
-        ∙ ap (λ (x : Stack). next_of (local_after_silent p (silent_there p steps entries i) x)) local_then
-        ∙ ap (λ (x : Stack). next_of x) (sym (run.stands.locals i l)) ∙ asks.next
-
-    pub tried_illegal : (c : Choice) → c ≡ choice_behind (last_state p entries).memory a b → (IsLegal (last_state p after).memory (view_in (last_state p after) i) a c → ⊥) → IsMove (node_of p steps entries) i a b → ⊥
-    tried_illegal c e never move =
-        never (subst (IsLegal (last_state p after).memory (view_in (last_state p after) i) a) (sym e) (is_legal p steps n entries s ok run.reached run.stands i a b l asks after u prepared_there move))
+    pub tried_far : (c : Choice) → c ≡ choice_close (last_state p entries).memory a b → (IsLegal (last_state p entries).memory (view_in (last_state p entries) i) a c → ⊥) → IsMove (node_of p steps entries) i a b → ⊥
+    tried_far c e never move =
+        never (subst (IsLegal s.memory (view_in s i) a) (sym e) (legal_close s.memory (view_in s i) a b proper_there
+        (subst (λ (v : ThreadView). IsLegal (made_room s.memory a b) v a (choice_behind s.memory a b)) view_then
+        (subst (λ (m : Memory). IsLegal m (view_in (last_state p after) i) a (choice_behind s.memory a b)) prepared_there.memory
+        (is_legal p steps n entries s ok run.reached run.stands i a b l asks after u prepared_there move)))))
 
     pub tried_some : (c : Choice) (k : ℕ) (x : Event) (list : List Entry) (f : Bool) → c ≡ choice_behind (last_state p entries).memory a b → k ≡ silent_there p steps entries i
         → (leaves_choice a ≡ true → IsSome (message_at b (messages (last_state p entries).memory (location_of a))))
@@ -187,3 +158,39 @@ module _ (p : Program) (steps : ℕ) (entries : List Entry) (i : ℕ) (a : Acces
 
         same : list ≡ after ++ entry_of_access (last_state p after) i (silent_there p steps entries i) a (choice_behind (last_state p entries).memory a b) ∷ []
         same = told_list ∙ ap (λ (y : Entry). after ++ y ∷ []) entry_same
+
+    -- the list is as small as it may be
+    pub made_few : (list : List Entry) (e : Entry) → list ≡ after ++ e ∷ [] → e.event ≡ (step_result (last_state p after).memory (view_in (last_state p after) i) i a (choice_behind (last_state p entries).memory a b)).event
+        → (length list ≡ length entries + 1) × ((most : ℕ) → b ≤ most → AreSmall most entries → AreSmall (most + 2) list)
+    made_few list e told_list now = (
+      omega (arith, ap {B = ℕ} length told_list, length-append after (e ∷ []), after_few),
+      λ most low small.
+          one_small (most + 2) after list e told_list
+          (subst (AreSmall (most + 2)) (sym made) (room_small puts (location_of a) b most entries small))
+          (subst (λ (x : Event). largest_stamp x ≤ most + 2) (sym now) (made_small u.memory (view_in u i) i s.memory a b most low)),
+    )
+
+    -- where it chooses a message
+    pub tried_close : (c : Choice) (k : ℕ) (x : Event) (list : List Entry) (f : Bool) → c ≡ choice_close (last_state p entries).memory a b → k ≡ silent_there p steps entries i → leaves_choice a ≡ true
+        → IsSome (message_at b (messages (last_state p entries).memory (location_of a))) → IsLegal (last_state p entries).memory (view_in (last_state p entries) i) a c → x ≡ event_behind (last_state p entries).memory a b
+        → list ≡ after ++ record { thread = i; silent = k; event = x } ∷ [] → f ≡ is_failure x
+        → (IsMove (node_of p steps entries) i a b × (((f ≡ true) × FailsBy p steps (node_of p steps entries) i a b list) ⊎ ((f ≡ false) × GoesOnBy p steps (node_of p steps entries) i a b list)))
+        × ((length list ≡ length entries + 1) × ((most : ℕ) → b ≤ most → AreSmall most entries → AreSmall (most + 2) list))
+    tried_close c k x list f e q some found legal is_event told_list fails =
+        let now = is_event ∙ sym (event_then some) in (
+          tried_some (choice_behind s.memory a b) k x list f refl q (λ _. found) (opened_then (subst (IsLegal s.memory (view_in s i) a) e legal)) now told_list fails,
+          made_few list (record { thread = i; silent = k; event = x }) told_list now,
+        )
+
+  -- where it doesn't
+  pub tried_only : (k : ℕ) (x : Event) (list : List Entry) (f : Bool) → b ≡ 0 → k ≡ silent_there p steps entries i → leaves_choice a ≡ false
+      → x ≡ (step_result (last_state p entries).memory (view_in (last_state p entries) i) i a Plain).event → list ≡ entries ++ record { thread = i; silent = k; event = x } ∷ [] → f ≡ is_failure x
+      → (IsMove (node_of p steps entries) i a b × (((f ≡ true) × FailsBy p steps (node_of p steps entries) i a b list) ⊎ ((f ≡ false) × GoesOnBy p steps (node_of p steps entries) i a b list)))
+      × ((length list ≡ length entries + 1) × ((most : ℕ) → AreSmall most entries → AreSmall (most + 2) list))
+  tried_only k x list f z q none is_event told_list fails =
+      let choice = plain_choice s.memory a b none in
+      let told = sym (plain_puts s.memory a b none) in
+      let few = made_few false entries told refl list (record { thread = i; silent = k; event = x }) told_list (is_event ∙ ap (λ (c : Choice). (step_result s.memory (view_in s i) i a c).event) (sym choice)) in (
+        tried_some false entries told refl Plain k x list f (sym choice) q (λ h. absurd (true≢false (sym h ∙ none))) (plain_legal s.memory (view_in s i) a none run.stands.running) is_event told_list fails,
+        (few.0, λ most small. few.1 most (omega (arith, z)) small),
+      )

@@ -1,3 +1,4 @@
 pub mod Room
+pub mod Behind
 pub mod Ends
 pub mod Moves

@@ -1,18 +1,22 @@
 //! All moves from where a run ends.
-ghost use Rattle.std.specs.Prelude.{◌≡◌, ℕ, ◌^◌, ◌<◌, ◌≤◌, Some, IfOk, OnOk, IfSome, length};
+ghost use Rattle.std.specs.Prelude.{◌≡◌, ℕ, ◌^◌, ◌<◌, ◌≤◌, true, Some, IfOk, OnOk, IfSome, length};
 ghost use Rattle.std.specs.List.{AllByRecursion};
+ghost use Rattle.values_undef.specs.Access.{leaves_choice};
 ghost use Rattle.thread_core.specs.Programs.{IsProperProgram, IsProperAccess};
+ghost use Rattle.view_machine.specs.Held.{IsOf};
 ghost use Rattle.outcome_nodes.specs.Nodes.{Asks, IsMove};
 ghost use Rattle.outcome_nodes.specs.Standing.{node_of, IsNodeRun};
 ghost use Rattle.outcome_moves.specs.Room.{AreSmall};
 ghost use Rattle.outcome_moves.specs.Ends.{end_in};
-ghost use Rattle.outcome_moves.specs.Moves.{silent_there, HasMove, HasMovesOf, GrowsBy, IsSomeMove, IsSmallMove};
+ghost use Rattle.outcome_moves.specs.Moves.{last_state, silent_there, HasMove, HasMovesOf, GrowsBy, IsSomeMove, IsSmallMove};
 
-use crate::moves::{Move, end_in, location_of, try_move};
-use crate::standing::{What, next_there};
+use crate::moves::{Move, end_in, location_of, only_move, try_move};
+use crate::standing::{What, stand_at};
 use il_syntax::Program;
+use message_memory::PlainMemory;
 use std::alloc::Global;
 use values_undef::{Access, Entry, NoMemory};
+use view_machine::Machine;
 
 /// Adds the move of the access at the message that ends at `b`, if there is one.
 fn add_move(
@@ -20,6 +24,7 @@ fn add_move(
     p: &Program,
     _steps: u64,
     entries: &[Entry],
+    machine: &Machine<PlainMemory>,
     thread: u32,
     silent: u64,
     a: &Access,
@@ -28,18 +33,21 @@ fn add_move(
 ) -> Result<(), NoMemory>
     requires proper { IsProperProgram p.now }
     requires run { IsNodeRun p.now _steps entries.now }
-    requires few { length entries.now < 2 ^ 32 }
     requires small { AreSmall (2 ^ 60) entries.now }
+    requires program { IsOf p.now machine.now }
+    requires memory { machine.now.memory ≡ (last_state p.now entries.now).memory }
+    requires views { machine.now.views ≡ (last_state p.now entries.now).views }
     requires low { b ≤ 2 ^ 60 }
     requires lowest { (most : ℕ) → AreSmall most entries.now → b ≤ most }
     requires there { thread < length p.now.threads }
     requires silent { silent ≡ silent_there p.now _steps entries.now thread }
     requires asks { Asks _steps (node_of p.now _steps entries.now) thread a.now }
+    requires choice { leaves_choice a.now ≡ true }
     requires named { IsProperAccess p.now a.now }
     ensures grows { OnOk result (GrowsBy p.now _steps (node_of p.now _steps entries.now) entries.now moves.old.items moves.new.items) }
     ensures added { OnOk result (IsMove (node_of p.now _steps entries.now) thread a.now b → HasMove p.now _steps (node_of p.now _steps entries.now) moves.new.items thread a.now b) }
 {
-    if let Some(m) = try_move(alloc, p, _steps, entries, thread, silent, a, b)? {
+    if let Some(m) = try_move(alloc, p, _steps, entries, machine, thread, silent, a, b)? {
         moves.push(m)?;
     }
     Ok(())
@@ -51,6 +59,7 @@ fn add_end(
     p: &Program,
     _steps: u64,
     entries: &[Entry],
+    machine: &Machine<PlainMemory>,
     thread: u32,
     silent: u64,
     a: &Access,
@@ -60,20 +69,64 @@ fn add_end(
 ) -> Result<(), NoMemory>
     requires proper { IsProperProgram p.now }
     requires run { IsNodeRun p.now _steps entries.now }
-    requires few { length entries.now < 2 ^ 32 }
     requires small { AreSmall (2 ^ 60) entries.now }
+    requires program { IsOf p.now machine.now }
+    requires memory { machine.now.memory ≡ (last_state p.now entries.now).memory }
+    requires views { machine.now.views ≡ (last_state p.now entries.now).views }
     requires low { (most : ℕ) (b : ℕ) → AreSmall most entries.now → end_in y entry.now.event ≡ Some b → b ≤ most }
     requires there { thread < length p.now.threads }
     requires silent { silent ≡ silent_there p.now _steps entries.now thread }
     requires asks { Asks _steps (node_of p.now _steps entries.now) thread a.now }
+    requires choice { leaves_choice a.now ≡ true }
     requires named { IsProperAccess p.now a.now }
     ensures grows { OnOk result (GrowsBy p.now _steps (node_of p.now _steps entries.now) entries.now moves.old.items moves.new.items) }
     ensures added { OnOk result ((b : ℕ) → end_in y entry.now.event ≡ Some b → IsMove (node_of p.now _steps entries.now) thread a.now b → HasMove p.now _steps (node_of p.now _steps entries.now) moves.new.items thread a.now b) }
 {
     match end_in(entry, y) {
         None => Ok(()),
-        Some(b) => add_move(alloc, p, _steps, entries, thread, silent, a, b, moves),
+        Some(b) => add_move(
+            alloc, p, _steps, entries, machine, thread, silent, a, b, moves,
+        ),
     }
+}
+
+/// Adds the moves of an access to an atomic location: at the first message, and at each that an entry put in.
+fn add_moves_at(
+    alloc: Global,
+    p: &Program,
+    _steps: u64,
+    entries: &[Entry],
+    machine: &Machine<PlainMemory>,
+    thread: u32,
+    silent: u64,
+    a: &Access,
+    moves: &mut Vec<Move>,
+) -> Result<(), NoMemory>
+    requires proper { IsProperProgram p.now }
+    requires run { IsNodeRun p.now _steps entries.now }
+    requires small { AreSmall (2 ^ 60) entries.now }
+    requires program { IsOf p.now machine.now }
+    requires memory { machine.now.memory ≡ (last_state p.now entries.now).memory }
+    requires views { machine.now.views ≡ (last_state p.now entries.now).views }
+    requires there { thread < length p.now.threads }
+    requires silent { silent ≡ silent_there p.now _steps entries.now thread }
+    requires asks { Asks _steps (node_of p.now _steps entries.now) thread a.now }
+    requires choice { leaves_choice a.now ≡ true }
+    requires named { IsProperAccess p.now a.now }
+    ensures grows { OnOk result (GrowsBy p.now _steps (node_of p.now _steps entries.now) entries.now moves.old.items moves.new.items) }
+    ensures all { OnOk result (HasMovesOf p.now _steps (node_of p.now _steps entries.now) moves.new.items thread) }
+{
+    add_move(
+        alloc, p, _steps, entries, machine, thread, silent, a, 0, moves,
+    )?;
+    let y = location_of(a);
+    for k in 0..entries.len() {
+        let entry = &entries[k];
+        add_end(
+            alloc, p, _steps, entries, machine, thread, silent, a, y, entry, moves,
+        )?;
+    }
+    Ok(())
 }
 
 /// Adds the moves of a thread.
@@ -94,30 +147,18 @@ fn add_moves(
     ensures grows { OnOk result (GrowsBy p.now steps (node_of p.now steps entries.now) entries.now moves.old.items moves.new.items) }
     ensures all { OnOk result (HasMovesOf p.now steps (node_of p.now steps entries.now) moves.new.items thread) }
 {
-    let (silent, what) = next_there(alloc, p, steps, entries, thread)?;
+    let (mut machine, silent, what) = stand_at(alloc, p, steps, entries, thread)?;
     let What::Asks { a } = what else {
         return Ok(());
     };
-    add_move(alloc, p, steps, entries, thread, silent, &a, 0, moves)?;
     if !a.leaves_choice() {
+        let m = only_move(alloc, p, steps, entries, &mut machine, thread, silent, &a)?;
+        moves.push(m)?;
         return Ok(());
     }
-    let y = location_of(&a);
-    for k in 0..entries.len() {
-        add_end(
-            alloc,
-            p,
-            steps,
-            entries,
-            thread,
-            silent,
-            &a,
-            y,
-            &entries[k],
-            moves,
-        )?;
-    }
-    Ok(())
+    add_moves_at(
+        alloc, p, steps, entries, &machine, thread, silent, &a, moves,
+    )
 }
 
 /// The moves of so many threads.

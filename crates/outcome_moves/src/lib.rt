@@ -8,11 +8,13 @@
 #![tactic(auto)]
 
 mod all;
+mod ending;
 mod moves;
 mod room;
 mod standing;
 
 pub use all::moves_of;
-pub use moves::{Move, end_in, try_move};
+pub use ending::ended_run;
+pub use moves::{Move, end_in};
 pub use room::moved_entries;
 pub use standing::{What, next_there, stand};

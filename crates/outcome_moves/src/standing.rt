@@ -5,11 +5,11 @@ ghost use Rattle.values_undef.specs.Access.{is_spend};
 ghost use Rattle.values_undef.specs.Journal.{entry_steps, used_steps};
 ghost use Rattle.values_undef.specs.declared.access.Access.{Access as TheAccess};
 ghost use Rattle.thread_core.specs.Programs.{IsProperProgram};
-ghost use Rattle.view_machine.specs.State.{initial_state};
+ghost use Rattle.view_machine.specs.State.{next_in, initial_state};
 ghost use Rattle.view_machine.specs.Runs.{IsEntry, after_entry, IsJournalRun, state_after};
 ghost use Rattle.view_machine.specs.Held.{state_in, IsOf, HasRoom};
 ghost use Rattle.outcome_nodes.specs.Standing.{IsNodeRun};
-ghost use Rattle.outcome_moves.specs.Moves.{silent_there, IsWhat};
+ghost use Rattle.outcome_moves.specs.Moves.{last_state, silent_there, IsWhat};
 
 use il_syntax::Program;
 use message_memory::PlainMemory;
@@ -101,6 +101,7 @@ fn what_next(next: Next, left: bool) -> What
     ensures finished { next ≡ Next.Access Access.Finish → result ≡ What.Finished }
     ensures asks { (a : TheAccess) → next ≡ Next.Access a → (a ≡ Access.Finish → ⊥) → left ≡ true → result ≡ What.Asks a }
     ensures spent { (a : TheAccess) → next ≡ Next.Access a → (a ≡ Access.Finish → ⊥) → left ≡ false → result ≡ What.Spent }
+    ensures told { (a : TheAccess) → result ≡ What.Asks a → next ≡ Next.Access a }
 {
     match next {
         Next::Silent => What::Spent,
@@ -111,6 +112,35 @@ fn what_next(next: Next, left: bool) -> What
             if left { What::Asks { a } } else { What::Spent }
         }
     }
+}
+
+/// The machine where the run ends, after the silent steps that a thread makes there, with their number and what the thread
+/// does after them.
+pub fn stand_at(
+    alloc: Global,
+    p: &Program,
+    steps: u64,
+    entries: &[Entry],
+    thread: u32,
+) -> Result<(Machine<PlainMemory>, u64, What), NoMemory>
+    requires proper { IsProperProgram p.now }
+    requires run { IsNodeRun p.now steps entries.now }
+    requires few { length entries.now < 2 ^ 32 }
+    requires steps { steps < 2 ^ 32 }
+    requires there { thread < length p.now.threads }
+    ensures silent { IfOk result (λ r. r.1 ≡ silent_there p.now steps entries.now thread) }
+    ensures what { IfOk result (λ r. IsWhat p.now steps entries.now thread r.2) }
+    ensures next { IfOk result (λ r. (a : TheAccess) → r.2 ≡ What.Asks a → next_in (state_in p.now r.0) thread ≡ Next.Access a) }
+    ensures memory { IfOk result (λ r. r.0.memory ≡ (last_state p.now entries.now).memory) }
+    ensures views { IfOk result (λ r. r.0.views ≡ (last_state p.now entries.now).views) }
+    ensures program { IfOk result (λ r. IsOf p.now r.0) }
+    ensures room { IfOk result (λ r. 1 ≤ r.0.spare) }
+{
+    let mut machine = stand(alloc, p, entries)?;
+    let left = steps - used_by(entries, thread);
+    let (silent, next) = machine.run_to(p, thread, left);
+    let what = what_next(next, silent < left);
+    Ok((machine, silent, what))
 }
 
 /// The silent steps that a thread makes where the run ends, and what it does after them.
@@ -129,9 +159,6 @@ pub fn next_there(
     ensures silent { IfOk result (λ r. r.0 ≡ silent_there p.now steps entries.now thread) }
     ensures what { IfOk result (λ r. IsWhat p.now steps entries.now thread r.1) }
 {
-    let mut machine = stand(alloc, p, entries)?;
-    let left = steps - used_by(entries, thread);
-    let (silent, next) = machine.run_to(p, thread, left);
-    let what = what_next(next, silent < left);
+    let (_machine, silent, what) = stand_at(alloc, p, steps, entries, thread)?;
     Ok((silent, what))
 }

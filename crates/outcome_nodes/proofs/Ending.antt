@@ -12,16 +12,19 @@ use Rattle.values_undef.specs.declared.access.Event.TheVariants as event
 use Rattle.values_undef.specs.declared.journal.Entry.{Entry}
 use Rattle.il_syntax.specs.declared.program.Program.{Program}
 use Rattle.message_memory.specs.Memory.{Memory}
+use Rattle.thread_core.specs.declared.next.Next.{Next}
+use Rattle.thread_core.specs.declared.next.Next.TheVariants as next
 use Rattle.thread_core.specs.Programs.{IsProperProgram}
 use Rattle.thread_core.specs.Frames.{Stack, next_of}
-use Rattle.view_machine.specs.State.{State, local_in, with_local, has_ended, idle, IsRunning, IsSpendable, after_spend}
-use Rattle.view_machine.specs.Runs.{after_silent, AreSilent, IsEntry, after_entry, IsRunTo}
+use Rattle.view_machine.specs.State.{State, local_in, with_local, has_ended, idle, initial_state, IsRunning, IsSpendable, after_spend}
+use Rattle.view_machine.specs.Runs.{after_silent, AreSilent, IsEntry, after_entry, IsRunTo, state_after}
 use Rattle.view_machine.specs.Laws.{IsReached}
 use Rattle.view_machine.proofs.Callers.{silent_steps_local, going_with, states_whole, run_goes_on}
 use Rattle.run_choices.specs.Complete.{has_ended as journal_ended, has_spent}
 use Rattle.run_choices.proofs.Callers.{fails_more, ended_more}
 use Rattle.outcome_nodes.specs.Nodes.{Node, local_of, used_of, silent_steps, settled, settled_use, prints, IsFinished, IsSpent, HasPrinted}
-use Rattle.outcome_nodes.specs.Reached.{IsRunOf, EndsAreOfRuns}
+use Rattle.outcome_nodes.specs.Reached.{IsRunOf, IsEndedRun, EndsAreOfRuns}
+use Rattle.outcome_nodes.specs.Standing.{node_of, IsNodeRun, last_event, last_entry, with_last_entries}
 use Rattle.outcome_nodes.proofs.Appending.{finished_more}
 use Rattle.outcome_nodes.proofs.Following.{used_here, used_other, printed_none, spent_from, settled_same, use_same}
 use Rattle.outcome_nodes.proofs.Rooms.{has_steps, few_steps}
@@ -157,60 +160,116 @@ spend_closing p steps n m entries s reached l r f = record {
 
 -- ---- all threads
 
-ended_to : (p : Program) (steps : ℕ) (n : Node) (entries : List Entry) (s : State) → IsProperProgram p → IsRunOf p steps entries s n → ((j : ℕ) → j < length p.threads → IsFinished n j ⊎ IsSpent steps n j) → (m : ℕ) → m ≤ length p.threads
-    → (entries' : List Entry) × (t : State) × IsEndedTo p steps n m entries' t
-ended_to p steps n entries s ok R ends zero l = (
-  entries,
-  s,
-  record {
-    run = R.run;
-    running = R.running;
-    memory = R.memory;
-    goes = R.goes;
-    within = R.within;
-    full = λ j h q. absurd (true≢false (sym q ∙ R.unspent j));
-    printed = R.printed;
-    ended = λ j h. absurd (omega arith);
-    finished = λ j h. absurd (omega arith);
-    spent = λ j h. absurd (omega arith);
-    going = λ j h g. R.going j g;
-    locals = λ j h g. R.locals j g;
-    used = λ j h g. R.used j g;
-    unfinished = λ j h g. R.unfinished j;
-  },
-)
-ended_to p steps n entries s ok R ends (suc m) l =
-    let q = ended_to p steps n entries s ok R ends m (omega arith) in
-    let reached = states_whole p q.0 q.1 ok q.2.run in
-    let there : m < length p.threads = omega arith in
-    ⊎_elim
-    (λ (f : IsFinished n m). (
-      _,
-      _,
-      close p steps n m q.0 q.1 _ event.Finish there q.2 (finish_closing p steps n m q.0 q.1 reached there q.2 f) (record { ends = refl; none = refl; goes = refl })
-          (λ _. refl) (λ g. absurd (g.unfinished f)) (λ h. absurd (false≢true h)),
-    ))
-    (λ (f : IsSpent steps n m). (
-      _,
-      _,
-      close p steps n m q.0 q.1 _ event.Spend there q.2 (spend_closing p steps n m q.0 q.1 reached there q.2 f.unfinished) (record { ends = refl; none = refl; goes = refl })
-          (λ g. absurd (f.unfinished g)) (λ _. refl) (λ _. f.used),
-    ))
-    (ends m there)
+-- how thread m ends is told by where it stands
+finish_last : (x : Next) → x ≡ next.Access access.Finish → last_event x ≡ event.Finish
+finish_last x e = ap last_event e
+
+spend_last : (x : Next) → (x ≡ next.Access access.Finish → ⊥) → last_event x ≡ event.Spend
+spend_last next.Silent h = refl
+spend_last (next.Access access.Finish) h = absurd (h refl)
+spend_last (next.Access (access.NaRead x)) h = refl
+spend_last (next.Access (access.NaWrite x v)) h = refl
+spend_last (next.Access (access.Read y o)) h = refl
+spend_last (next.Access (access.Write y o v)) h = refl
+spend_last (next.Access (access.Update y o k)) h = refl
+spend_last (next.Access (access.Fence o)) h = refl
+spend_last (next.Access (access.Print v)) h = refl
+spend_last (next.Access (access.Fail c)) h = refl
+spend_last (next.Access access.Spend) h = refl
+
+module _ (p : Program) (steps : ℕ) (n : Node) (entries : List Entry) (s : State) (ok : IsProperProgram p) (R : IsRunOf p steps entries s n) where
+  -- the last entries of the threads below m leave the other threads where they stand
+  record IsClosedTo (m : ℕ) : Type 0 where
+    state : State
+    to : IsEndedTo p steps n m (with_last_entries p steps entries s m) state
+    locals : (j : ℕ) → m ≤ j → local_in state j ≡ local_in s j
+    used : (j : ℕ) → m ≤ j → used_steps (with_last_entries p steps entries s m) j ≡ used_steps entries j
+
+  closed_none : IsClosedTo 0
+  closed_none = record {
+    state = s;
+    to = record {
+      run = R.run;
+      running = R.running;
+      memory = R.memory;
+      goes = R.goes;
+      within = R.within;
+      full = λ j h q. absurd (true≢false (sym q ∙ R.unspent j));
+      printed = R.printed;
+      ended = λ j h. absurd (omega arith);
+      finished = λ j h. absurd (omega arith);
+      spent = λ j h. absurd (omega arith);
+      going = λ j h g. R.going j g;
+      locals = λ j h g. R.locals j g;
+      used = λ j h g. R.used j g;
+      unfinished = λ j h g. R.unfinished j;
+    };
+    locals = λ j h. refl;
+    used = λ j h. refl;
+  }
+
+  closed_one : (m : ℕ) (t : State) (e : Event) → m < length p.threads → (c : IsClosedTo m) → IsClosing p steps (with_last_entries p steps entries s m) c.state m e t → IsLast e
+      → last_event (next_of (settled p steps (used_steps entries m) (local_in s m))) ≡ e
+      → (IsFinished n m → is_finish e ≡ true) → (IsSpent steps n m → is_finish e ≡ false) → (is_spend e ≡ true → used_of n m ≡ steps) → IsClosedTo (suc m)
+  closed_one m t e l c closes last told fin spe full = record {
+    state = t;
+    to = subst (λ (x : Entry). IsEndedTo p steps n (suc m) (with_last_entries p steps entries s m ++ x ∷ []) t) same
+        (close p steps n m (with_last_entries p steps entries s m) c.state t e l c.to closes last fin spe full);
+    locals = λ j h. closes.locals j (λ q. omega (arith, h, q)) ∙ c.locals j (omega (arith, h));
+    used = λ j h. used_other (with_last_entries p steps entries s m) (last_entry p steps entries s m) j (λ q. omega (arith, h, q)) ∙ c.used j (omega (arith, h));
+  }
+    where
+      silent : silent_steps p (steps - used_steps (with_last_entries p steps entries s m) m) (local_in c.state m) ≡ silent_steps p (steps - used_steps entries m) (local_in s m)
+      silent =
+          ap (λ (x : ℕ). silent_steps p (steps - x) (local_in c.state m)) (c.used m (omega arith))
+          ∙ ap (λ (x : Stack). silent_steps p (steps - used_steps entries m) x) (c.locals m (omega arith))
+
+      same : closing p steps (with_last_entries p steps entries s m) c.state m e ≡ last_entry p steps entries s m
+      same =
+          ap (λ (x : ℕ). let y : Entry = record { thread = m; silent = x; event = e } in y) silent
+          ∙ ap (λ (x : Event). let y : Entry = record { thread = m; silent = silent_steps p (steps - used_steps entries m) (local_in s m); event = x } in y) (sym told)
+
+  closed_next : (m : ℕ) → m < length p.threads → IsClosedTo m → IsFinished n m ⊎ IsSpent steps n m → IsClosedTo (suc m)
+  closed_next m there c ends =
+      ⊎_elim
+      (λ (f : IsFinished n m).
+      closed_one m _ event.Finish there c (finish_closing p steps n m (with_last_entries p steps entries s m) c.state reached there c.to f) (record { ends = refl; none = refl; goes = refl })
+      (finish_last _ (stands ∙ f)) (λ _. refl) (λ g. absurd (g.unfinished f)) (λ h. absurd (false≢true h)))
+      (λ (f : IsSpent steps n m).
+      closed_one m _ event.Spend there c (spend_closing p steps n m (with_last_entries p steps entries s m) c.state reached there c.to f.unfinished) (record { ends = refl; none = refl; goes = refl })
+      (spend_last _ (λ q. f.unfinished (sym stands ∙ q))) (λ g. absurd (f.unfinished g)) (λ _. refl) (λ _. f.used))
+      ends
+    where
+      reached : IsReached p c.state
+      reached = states_whole p (with_last_entries p steps entries s m) c.state ok c.to.run
+
+      stands : next_of (settled p steps (used_steps entries m) (local_in s m)) ≡ next_of (local_of n m)
+      stands = ap (λ (x : Stack). next_of x) (sym (R.locals m there))
+
+  closed_to : ((j : ℕ) → j < length p.threads → IsFinished n j ⊎ IsSpent steps n j) → (m : ℕ) → m ≤ length p.threads → IsClosedTo m
+  closed_to ends zero l = closed_none
+  closed_to ends (suc m) l = closed_next m (omega (arith, l)) (closed_to ends m (omega (arith, l))) (ends m (omega (arith, l)))
+
+  all_ended : ((j : ℕ) → j < length p.threads → IsFinished n j ⊎ IsSpent steps n j) → IsEndedRun p steps n (with_last_entries p steps entries s (length p.threads))
+  all_ended ends =
+      let r = (closed_to ends (length p.threads) (omega arith)).to in
+      record {
+        run = r.run.run;
+        complete = record { within = r.within; spent = r.full; whole = inr (λ j l. r.ended j l l) };
+        goes = r.goes;
+        finished = λ j l f. r.finished j l l f;
+        spent = λ j l f. r.spent j l l f;
+        printed = r.printed;
+        many_printed = R.many_printed;
+        memory = r.memory ∙ ap (λ (t : State). let m : Memory = record t.memory { outputs = [] } in m) (sym r.run.state);
+      }
 
 pub ends_of_runs : EndsAreOfRuns
 ends_of_runs p steps n ok before ends =
     let q = nodes_of_runs p steps n ok before in
-    let r = ended_to p steps n q.0 q.1 ok q.2 ends (length p.threads) (omega arith) in (
-      r.0,
-      record {
-        run = r.2.run.run;
-        complete = record { within = r.2.within; spent = r.2.full; whole = inr (λ j l. r.2.ended j l l) };
-        goes = r.2.goes;
-        finished = λ j l f. r.2.finished j l l f;
-        spent = λ j l f. r.2.spent j l l f;
-        printed = r.2.printed;
-        many_printed = q.2.many_printed;
-        memory = r.2.memory ∙ ap (λ (t : State). let m : Memory = record t.memory { outputs = [] } in m) (sym r.2.run.state);
-      },
-    )
+    (_, all_ended p steps n q.0 q.1 ok q.2 ends)
+
+-- the run that the node is kept as, with the last entries
+pub ended_with : (p : Program) (steps : ℕ) (entries : List Entry) → IsProperProgram p → IsNodeRun p steps entries → ((j : ℕ) → j < length p.threads → IsFinished (node_of p steps entries) j ⊎ IsSpent steps (node_of p steps entries) j)
+    → IsEndedRun p steps (node_of p steps entries) (with_last_entries p steps entries (state_after p (initial_state p) entries) (length p.threads))
+ended_with p steps entries ok run ends = all_ended p steps (node_of p steps entries) entries (state_after p (initial_state p) entries) ok run.stands ends

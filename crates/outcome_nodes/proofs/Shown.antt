@@ -18,7 +18,7 @@ use Rattle.view_machine.specs.Runs.{IsJournalRun, state_after}
 use Rattle.run_choices.specs.Complete.{IsComplete}
 use Rattle.outcome_nodes.specs.Nodes.{Node, IsFinished, IsSpent, printed_by, HasPrinted}
 use Rattle.outcome_nodes.specs.Laws.{IsClosedUnderMoves, FailsFrom, EndsIn}
-use Rattle.outcome_nodes.specs.Reached.{IsReachable, IsEndedRun}
+use Rattle.outcome_nodes.specs.Reached.{IsReachable, IsFailedRun, IsEndedRun}
 use Rattle.outcome_nodes.specs.Outcome.{FinalOutcome, final_values, values_told, final_outcome_of, IsOutcome, Fails, EndsAs, Ends, failed_outcome, ended_outcome, IsShown, ShownAreOutcomes}
 use Rattle.outcome_nodes.proofs.Missing.{nothing_missed}
 use Rattle.outcome_nodes.proofs.Reaching.{nodes_of_runs, failures_of_runs}
@@ -131,34 +131,37 @@ module _ (p : Program) (steps : ℕ) (nodes : List Node) (entries : List Entry) 
       (λ (q : (last_fails entries ≡ false) × EndsIn p steps nodes entries). shown_ended q.0 q.1)
       (nothing_missed p steps nodes entries ok closed run whole)
 
+-- ---- the outcome of a run that ends in a node
+
+pub of_failed_run : (p : Program) (steps : ℕ) (n : Node) (entries : List Entry) → IsFailedRun p steps n entries → final_outcome_of p entries ≡ failed_outcome n
+of_failed_run p steps n entries r = of_failed p n entries r.fails r.many_printed r.printed
+
+ends_as : (p : Program) (steps : ℕ) (n : Node) (e : Ending) (entries : List Entry) → Ends p steps n e → IsEndedRun p steps n entries → ending_in entries (length p.threads) ≡ e
+ends_as p steps n Done entries f r = ending_done entries (length p.threads) r.goes (finished_all entries (length p.threads) (λ i l. r.finished i l (f.ending i l)))
+ends_as p steps n Failed entries f r = absurd f.ending
+ends_as p steps n Spent entries f r =
+    ⊎_elim
+    (λ (h : all_finished entries (length p.threads) ≡ true).
+    absurd (f.ending (λ i l. ⊎_elim (λ (g : IsFinished n i). g)
+    (λ (g : IsSpent steps n i). absurd (true≢false (sym (finished_each entries (length p.threads) i h l) ∙ r.spent i l g))) (f.stand i l))))
+    (λ (h : all_finished entries (length p.threads) ≡ false). ending_spent entries (length p.threads) r.goes h)
+    (cases_Bool (all_finished entries (length p.threads)))
+
+pub of_ended_run : (p : Program) (steps : ℕ) (n : Node) (ending : Ending) (entries : List Entry) → Ends p steps n ending → IsEndedRun p steps n entries → final_outcome_of p entries ≡ ended_outcome n ending
+of_ended_run p steps n ending entries f r = of_ended p n entries ending (ends_as p steps n ending entries f r) r.many_printed r.printed (sym (ap final_values r.memory))
+
 -- ---- and no other
 
 module _ (p : Program) (steps : ℕ) (n : Node) (ok : IsProperProgram p) (reached : IsReachable p steps n) where
   of_fails : Fails p steps n → IsOutcome p steps (failed_outcome n)
   of_fails f =
       let r = failures_of_runs p steps n f.thread f.access f.behind ok reached f.there f.asks f.move f.fails in
-      record { entries = r.0; run = r.1.run; complete = r.1.complete; outcome = of_failed p n r.0 r.1.fails r.1.many_printed r.1.printed }
+      record { entries = r.0; run = r.1.run; complete = r.1.complete; outcome = of_failed_run p steps n r.0 r.1 }
 
   of_ends : (ending : Ending) → Ends p steps n ending → IsOutcome p steps (ended_outcome n ending)
   of_ends ending f =
       let r = ends_of_runs p steps n ok reached f.stand in
-      record {
-        entries = r.0;
-        run = r.1.run;
-        complete = r.1.complete;
-        outcome = of_ended p n r.0 ending (ends_as r.0 r.1 ending f.ending) r.1.many_printed r.1.printed (sym (ap final_values r.1.memory));
-      }
-    where
-      ends_as : (entries : List Entry) → IsEndedRun p steps n entries → (e : Ending) → EndsAs p n e → ending_in entries (length p.threads) ≡ e
-      ends_as entries r Done q = ending_done entries (length p.threads) r.goes (finished_all entries (length p.threads) (λ i l. r.finished i l (q i l)))
-      ends_as entries r Failed q = absurd q
-      ends_as entries r Spent q =
-          ⊎_elim
-          (λ (h : all_finished entries (length p.threads) ≡ true).
-          absurd (q (λ i l. ⊎_elim (λ (g : IsFinished n i). g)
-          (λ (g : IsSpent steps n i). absurd (true≢false (sym (finished_each entries (length p.threads) i h l) ∙ r.spent i l g))) (f.stand i l))))
-          (λ (h : all_finished entries (length p.threads) ≡ false). ending_spent entries (length p.threads) r.goes h)
-          (cases_Bool (all_finished entries (length p.threads)))
+      record { entries = r.0; run = r.1.run; complete = r.1.complete; outcome = of_ended_run p steps n ending r.0 f r.1 }
 
 pub shown_are_outcomes : ShownAreOutcomes
 shown_are_outcomes p steps nodes o ok closed reached = (to, from)

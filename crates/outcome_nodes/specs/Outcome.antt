@@ -1,7 +1,7 @@
 -- The outcome of a run: how it ends, what each thread has printed, and where it is done the last value of each
 -- location; and which outcomes a list of nodes shows.
 use Rattle.std.specs.Prelude.{◌≡◌, ◌⊎◌, ◌↔◌, ℕ, ℤ, ◌<◌, true, List, [], ◌∷◌, ◌++◌, length, map}
-use Rattle.std.specs.List.{Contains, range_with_len}
+use Rattle.std.specs.List.{Contains, AllByRecursion, range_with_len}
 use Rattle.values_undef.specs.declared.value.Val.{Val}
 use Rattle.values_undef.specs.declared.value.Val.TheVariants.{Undef}
 use Rattle.values_undef.specs.Journal.{ending_in}
@@ -53,6 +53,11 @@ pub record IsOutcome (p : Program) (steps : ℕ) (o : FinalOutcome) : Type 0 whe
   pub run : IsJournalRun p entries
   pub complete : IsComplete p entries steps
   pub outcome : final_outcome_of p entries ≡ o
+
+-- each of the runs is complete for the budget, and each outcome is that of one of them
+pub record HaveAllOutcomes (p : Program) (steps : ℕ) (runs : List (List Entry)) : Type 0 where
+  pub complete : AllByRecursion (λ entries. IsJournalRun p entries × IsComplete p entries steps) runs
+  pub all : (o : FinalOutcome) → IsOutcome p steps o → Contains (map (final_outcome_of p) runs) o
 
 -- ---- what a node shows
 

@@ -4,7 +4,7 @@ use Rattle.view_machine.specs.State.{State, next_in}
 use Rattle.view_machine.specs.Runs.{after_silent, AreSilent}
 use Rattle.outcome_moves.proofs.Making.{none_spends}
 use Rattle.outcome_moves.proofs.There.{silent_is, what_is}
-use Rattle.outcome_moves.proofs.standing.next_there.Goals as goal
+use Rattle.outcome_moves.proofs.standing.stand_at.Goals as goal
 
 pub stand-requires-clause-unspent : goal.stand-requires-clause-unspent
 stand-requires-clause-unspent c = none_spends c.args.entries.now c.requires.run.stands.unspent
