@@ -1,1 +1,3 @@
 mod Versions
+mod Views
+mod Nodes

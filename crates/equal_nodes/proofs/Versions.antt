@@ -219,7 +219,7 @@ written_there (e ∷ entries) i x v n q =
     (λ _ r. inr (written_there entries i x v n r))
     q
 
-AreTold : List Entry → List Entry → ℕ → Type 0
+abbrev AreTold : List Entry → List Entry → ℕ → Type 0
 AreTold a b threads = (i : ℕ) → i < threads → told_by a i ≡ told_by b i
 
 write_too : (p : Program) (s : State) (a b : List Entry) (x : ℕ) (v : Val) (n : ℕ) → IsRunFrom p s a → AreTold a b (length s.locals) → HasWrite a x v n → HasWrite b x v n

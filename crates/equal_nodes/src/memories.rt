@@ -1,5 +1,6 @@
 //! Whether two runs end with the same views and messages.
 ghost use Rattle.std.specs.Prelude.{◌≡◌, ◌⊎◌, ◌↔◌, ℕ, ◌<◌, IsTrue, IsSome, length};
+ghost use Rattle.views.specs.ThreadView.{IsOrdered};
 ghost use Rattle.message_memory.specs.Memory.{messages, message_at};
 ghost use Rattle.outcome_moves.specs.Ends.{HasEnd};
 ghost use Rattle.equal_nodes.specs.Same.{AreBeside};
@@ -12,7 +13,9 @@ use views::{Times, View};
 
 /// Whether two views of as many locations are equal.
 pub fn same_view(a: &View, b: &View) -> bool
-    requires { length b.now.cur ≡ length a.now.cur }
+    requires first { IsOrdered a.now }
+    requires second { IsOrdered b.now }
+    requires places { length b.now.cur ≡ length a.now.cur }
     ensures { IsTrue result ↔ (a.now ≡ b.now) }
 {
     a.is_below(b) && b.is_below(a)
