@@ -1,3 +1,4 @@
 mod Versions
 mod Views
-mod Nodes
+mod Comparing
+mod Keys

@@ -6,9 +6,11 @@
 //! again. Read the clauses of `same_node` first.
 #![tactic(auto)]
 
+mod key;
 mod memories;
 mod nodes;
 mod same;
 mod told;
 
+pub use key::key_of;
 pub use nodes::same_node;

@@ -4,7 +4,7 @@ use Rattle.std.proofs.lemmas.Option.{none-some, same_Some}
 use Rattle.message_memory.specs.Memory.{messages, message_at}
 use Rattle.outcome_moves.specs.Ends.{end_in, HasEnd}
 use Rattle.outcome_moves.proofs.Callers.{end_or_before, no_entry}
-use Rattle.equal_nodes.proofs.Nodes.{has_end}
+use Rattle.equal_nodes.proofs.Comparing.{has_end}
 use Rattle.equal_nodes.proofs.memories.same_ends.Goals as goal
 use Rattle.equal_nodes.proofs.memories.same_ends.Goals.{in-Some+else-not-same_at, in_default}
 

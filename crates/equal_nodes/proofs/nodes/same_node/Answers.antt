@@ -1,6 +1,6 @@
 use Rattle.std.proofs.Common.{rules, ◌≡◌, ℕ, ◌<◌, length}
 use Rattle.outcome_nodes.specs.Nodes.{told_by}
-use Rattle.equal_nodes.proofs.Nodes.{none_spends, ends_there, state_same, node_same}
+use Rattle.equal_nodes.proofs.Comparing.{none_spends, ends_there, state_same, node_same}
 use Rattle.equal_nodes.proofs.nodes.same_node.Goals as goal
 
 pub stand-requires-clause-unspent : goal.stand-requires-clause-unspent

@@ -59,7 +59,7 @@ ends_there p entries h y to run e q = ends_found p entries y to run (subst (λ (
 
 pub told_same : (p : Program) (steps : ℕ) (a b : List Entry) → node_of p steps a ≡ node_of p steps b → (i : ℕ) → i < length p.threads → told_by a i ≡ told_by b i
 told_same p steps a b e i l =
-    sym (get_or-map-range_with_len (told_by a) 0 (length p.threads) i i [] l refl) ∙ ap (λ (n : Node). get_or n.told i []) e ∙ get_or-map-range_with_len (told_by b) 0 (length p.threads) i i [] l refl
+    sym (get_or-map-range_with_len (told_by a) 0 (length p.threads) i i [] l (omega arith)) ∙ ap (λ (n : Node). get_or n.told i []) e ∙ get_or-map-range_with_len (told_by b) 0 (length p.threads) i i [] l (omega arith)
 
 pub state_same : (p : Program) (steps : ℕ) (a b : List Entry) (h k : Held) → state_in p h ≡ state_after p (initial_state p) a → state_in p k ≡ state_after p (initial_state p) b → node_of p steps a ≡ node_of p steps b → (h.views ≡ k.views) × (h.memory.atomic ≡ k.memory.atomic)
 state_same p steps a b h k f g e = (
@@ -85,4 +85,4 @@ node_same p steps a b h k ok first second told f g same =
     within i l = subst (λ (n : ℕ). i < n) (many a) l
 
     at : (c : List Entry) (i : ℕ) → i < length p.threads → get_or (node_of p steps c).told i [] ≡ told_by c i
-    at c i l = get_or-map-range_with_len (told_by c) 0 (length p.threads) i i [] l refl
+    at c i l = get_or-map-range_with_len (told_by c) 0 (length p.threads) i i [] l (omega arith)
