@@ -9,6 +9,6 @@ use Rattle.equal_nodes.proofs.key.thread_key.Goals as goal
 pub loop-k-preserved : goal.loop-k-preserved
 loop-k-preserved c =
     let e = get_or c.args.entries.now c.loop-k.k no_entry in
-    c.entry_key.ensures
+    c.entry_key-after.ensures
     ∙ ap (λ key. thread_key key (cond (eqb e.thread c.args.thread) (without_stamps e.event ∷ []) [])) c.loop-k.invariant
     ∙ sym (thread_more c.args.key c.args.entries.now c.loop-k.k no_entry c.args.thread c.loop-k-test.true)
