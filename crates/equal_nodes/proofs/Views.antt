@@ -1,5 +1,5 @@
 -- Equal views, and the lengths of messages' times.
-use Rattle.std.proofs.Common.{◌≡◌, ℕ, ◌+◌, ◌<◌, ◌≤◌, length, Option, Some, sym, ap, ◌∙◌, subst, refl, arith}
+use Rattle.std.proofs.Common.{◌≡◌, ℕ, ◌+◌, ◌<◌, length, Option, Some, sym, ap, ◌∙◌, subst, refl, arith}
 use Rattle.std.specs.Prelude.{IsSome, unwrap_or}
 use Rattle.views.specs.ThreadView.{ThreadView, IsOrdered, IsViewBelow}
 use Rattle.views.proofs.Callers.{below_antisymmetric}

@@ -1,5 +1,5 @@
 -- Memories of one program.
-use Rattle.std.specs.Prelude.{◌≡◌, ℕ, length}
+use Rattle.std.specs.Prelude.{◌≡◌, length}
 use Rattle.message_memory.specs.Memory.{Memory, IsWellFormedMemory}
 
 -- both are well-formed, and have as many locations

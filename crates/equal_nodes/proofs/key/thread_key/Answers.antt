@@ -1,5 +1,4 @@
-use Rattle.std.proofs.Common.{cond, eqb, get_or, List, [], ◌∷◌, sym, ap, ◌∙◌}
-use Rattle.values_undef.specs.declared.access.Event.{Event}
+use Rattle.std.proofs.Common.{cond, eqb, get_or, [], ◌∷◌, sym, ap, ◌∙◌}
 use Rattle.memory_likeness.specs.Likeness.{without_stamps}
 use Rattle.outcome_moves.proofs.Callers.{no_entry}
 use Rattle.equal_nodes.specs.Key.{thread_key}

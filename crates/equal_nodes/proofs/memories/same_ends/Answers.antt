@@ -1,4 +1,4 @@
-use Rattle.std.proofs.Common.{rules, ◌≡◌, ℕ, ⊎_elim, false, get_or, take, Option, Some, None, sym, ap, ◌∙◌, subst}
+use Rattle.std.proofs.Common.{rules, ◌≡◌, ℕ, ⊎_elim, false, get_or, take, Some, None, sym, ◌∙◌, subst}
 use Rattle.std.proofs.lemmas.Bool.{false≢true}
 use Rattle.std.proofs.lemmas.Option.{none-some, same_Some}
 use Rattle.message_memory.specs.Memory.{messages, message_at}
@@ -27,11 +27,11 @@ loop-k-preserved c =
     (λ (r : HasEnd (take k entries) y to). c.loop-k.invariant to r)
     (λ (r : end_in y (get_or entries k no_entry).event ≡ Some to).
     elim c.match-end_in.branch [
-      in-Some+else-not-same_at w ↦
-        let there : end_in y (get_or entries k no_entry).event ≡ Some w.in-Some.to = search rules in
-        subst (λ (z : ℕ). message_at z (messages m y) ≡ message_at z (messages n y)) (same_Some w.in-Some.to to (sym there ∙ r)) (w.same_at.ensures.0 (search rules))
-    | in_default w ↦
-        let none : end_in y (get_or entries k no_entry).event ≡ None = search rules in
-        absurd (none-some to (sym none ∙ r))
+      | in-Some+else-not-same_at w ↦
+          let there : end_in y (get_or entries k no_entry).event ≡ Some w.in-Some.to = search rules in
+          subst (λ (z : ℕ). message_at z (messages m y) ≡ message_at z (messages n y)) (same_Some w.in-Some.to to (sym there ∙ r)) (w.same_at.ensures.0 (search rules))
+      | in_default w ↦
+          let none : end_in y (get_or entries k no_entry).event ≡ None = search rules in
+          absurd (none-some to (sym none ∙ r))
     ])
     (end_or_before entries k no_entry y to c.loop-k-test.true q)
