@@ -1,0 +1,4 @@
+mod Versions
+mod Views
+mod Comparing
+mod Keys
