@@ -1,0 +1,4 @@
+mod Orders
+mod Comparing
+mod LastValues
+mod Placing

@@ -1,6 +1,6 @@
 -- What the definitions promise.
 use Rattle.std.specs.Prelude.{◌≡◌}
-use Rattle.std.specs.Ordering.{Equal}
+use Rattle.std.specs.declared.cmp.Ordering.TheVariants.{Equal}
 use Rattle.std.specs.Cmp.{IsTotalOrder}
 use Rattle.outcome_nodes.specs.Outcome.{FinalOutcome}
 use Rattle.outcome_list.specs.Order.{outcome_cmp}

@@ -1,7 +1,8 @@
 -- Lists of outcomes, each with a run that has it.
 use Rattle.std.specs.Prelude.{◌≡◌, ◌&&◌, ◌||◌, not, ℕ, ◌<◌, ◌≤◌, Bool, true, false, List, [], length, map, slice_index_or}
 use Rattle.std.specs.List.{AllByRecursion, Contains, list_any, starts_with}
-use Rattle.std.specs.Ordering.{Less, Greater, is_eq, int_eq}
+use Rattle.std.specs.declared.cmp.Ordering.TheVariants.{Less, Greater}
+use Rattle.std.specs.Ordering.{is_eq, int_eq}
 use Rattle.std.specs.Cmp.Lexicographic.{pointwise}
 use Rattle.values_undef.specs.declared.journal.Ending.{Ending}
 use Rattle.values_undef.specs.declared.journal.Ending.TheVariants.{Done, Failed, Spent}

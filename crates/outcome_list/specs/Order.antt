@@ -1,7 +1,9 @@
 -- The order of outcomes: by their ending, then by what is printed, thread by thread, then by their values.
 use Rattle.std.specs.Prelude.{◌≡◌, ℕ, ℤ, pos, List, [], ◌∷◌}
 use Rattle.std.specs.List.{AllByRecursion}
-use Rattle.std.specs.Ordering.{Ordering, Less, is_lt, ordering_then, nat_cmp, int_cmp}
+use Rattle.std.specs.declared.cmp.Ordering.{Ordering}
+use Rattle.std.specs.declared.cmp.Ordering.TheVariants.{Less}
+use Rattle.std.specs.Ordering.{ordering_then, nat_cmp, int_cmp}
 use Rattle.std.specs.Cmp.Lexicographic.{slice_cmp}
 use Rattle.values_undef.specs.declared.value.Val.{Val}
 use Rattle.values_undef.specs.declared.value.Val.TheVariants.{Def, Undef}

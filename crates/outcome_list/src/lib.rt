@@ -5,16 +5,16 @@
 //! `specs/List.antt` with the clauses of `listed` and `refines`.
 #![tactic(auto)]
 
+mod covering;
 mod found;
 pub mod laws;
 mod list;
 mod order;
 mod outcome;
-mod refines;
 mod values;
 
+pub use covering::refines;
 pub use found::{Found, Outcome};
 pub use list::listed;
 pub use order::compare;
 pub use outcome::outcome_of;
-pub use refines::refines;

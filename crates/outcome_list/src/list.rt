@@ -60,10 +60,10 @@ pub fn listed(
     alloc: Global,
     p: &Program,
     _steps: u64,
-    runs: &[Journal],
+    runs: Vec<Journal>,
 ) -> Result<Vec<Found>, NoMemory>
     requires proper { IsProperProgram p.now }
-    requires runs { HaveAllOutcomes p.now _steps runs.now }
+    requires all { HaveAllOutcomes p.now _steps runs.items }
     ensures nothing_missed { IfOk result (λ list. (o : FinalOutcome) → IsOutcome p.now _steps o → Contains (map seen list.items) o) }
     ensures nothing_invented { IfOk result (λ list. AllByRecursion (IsFound p.now _steps) list.items) }
     ensures each_once { IfOk result (λ list. IsRising (map seen list.items)) }

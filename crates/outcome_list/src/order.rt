@@ -1,5 +1,5 @@
 //! The order of outcomes.
-ghost use Rattle.std.specs.Prelude.{◌≡◌, map};
+ghost use Rattle.std.specs.Prelude.{◌≡◌};
 ghost use Rattle.std.specs.Ordering.{int_cmp};
 ghost use Rattle.std.specs.Cmp.Lexicographic.{slice_cmp};
 ghost use Rattle.outcome_list.specs.Order.{class_of, number_in, outcome_cmp, place_of_ending, value_cmp};
@@ -76,7 +76,7 @@ fn compare_numbers(a: &[i64], b: &[i64]) -> Ordering
 
 /// The order of what threads have printed.
 fn compare_printed(a: &[Vec<i64>], b: &[Vec<i64>]) -> Ordering
-    ensures { result ≡ slice_cmp (slice_cmp int_cmp) (map (λ v. v.items) a.now) (map (λ v. v.items) b.now) }
+    ensures { result ≡ slice_cmp (λ v w. slice_cmp int_cmp v.items w.items) a.now b.now }
 {
     for k in 0..a.len() {
         if k >= b.len() {

@@ -34,11 +34,12 @@ fn newest_after(y: u32, m: Newest, event: &Event) -> Newest
     ensures { result ≡ newest_after y m event.now }
 {
     match *event {
-        Event::Write {
-            y: z, v: n, to, ..
-        } if z == y => newer(m, Newest { to, value: n }),
+        Event::Write { y: z, v: n, to, .. } if z == y => newer(m, Newest { to, value: n }),
         Event::Update {
-            y: z, new: n, to, ..
+            y: z,
+            new: n,
+            to,
+            ..
         } if z == y => newer(m, Newest { to, value: n }),
         _ => m,
     }

@@ -1,5 +1,5 @@
 //! Whether the outcomes of one program are covered by those of another.
-ghost use Rattle.std.specs.Prelude.{◌≡◌, map};
+ghost use Rattle.std.specs.Prelude.{◌≡◌};
 ghost use Rattle.std.specs.List.{position, list_any, starts_with};
 ghost use Rattle.std.specs.Ordering.{int_eq};
 ghost use Rattle.std.specs.Cmp.Lexicographic.{pointwise};
@@ -18,7 +18,7 @@ fn is_failed(ending: Ending) -> bool
 
 /// Whether what each thread has printed in the one is a beginning of what it has printed in the other.
 fn are_begun(begun: &[Vec<i64>], whole: &[Vec<i64>]) -> bool
-    ensures { result ≡ pointwise (λ b w. starts_with int_eq w b) (map (λ v. v.items) begun.now) (map (λ v. v.items) whole.now) }
+    ensures { result ≡ pointwise (λ v w. starts_with int_eq w.items v.items) begun.now whole.now }
 {
     if begun.len() != whole.len() {
         return false;
