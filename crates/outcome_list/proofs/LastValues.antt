@@ -22,6 +22,7 @@ use Rattle.message_memory.specs.Step.{AdmitsChoice, StepResult, step_result, is_
 use Rattle.thread_core.specs.Programs.{IsProperProgram}
 use Rattle.view_machine.specs.State.{State, view_in, initial_state, declared_values}
 use Rattle.view_machine.specs.Runs.{after_entry, IsRunFrom, IsJournalRun, state_after}
+use Rattle.view_machine.specs.Laws.{IsReached}
 use Rattle.view_machine.proofs.Callers.{states_whole}
 use Rattle.outcome_nodes.specs.Outcome.{last_value, final_values}
 use Rattle.outcome_nodes.proofs.Callers.{Spends, Makes, entry_done}
@@ -176,6 +177,7 @@ last_values p entries ok run = λ i. na_is i ++ atomic_is i
     m : Memory
     m = (state_after p (initial_state p) entries).memory
 
+    whole : IsReached p (state_after p (initial_state p) entries)
     whole = states_whole p entries (state_after p (initial_state p) entries) ok (record { run = run; state = refl })
 
     many_na : length m.na ≡ length na
@@ -207,3 +209,10 @@ last_values p entries ok run = λ i. na_is i ++ atomic_is i
         (λ y l.
         let in_atomic : y < length atomic = omega (arith, l, a) in
         get_or-map-range_with_len (newest_value_of atomic entries) 0 (length atomic) y y Undef in_atomic (omega arith) ∙ sym (newest_is y in_atomic) ∙ sym (get_or-map last_value m.atomic y [] Undef (omega (arith, in_atomic, many_atomic))))
+
+-- what the code puts together
+pub values_made : (p : Program) (entries : List Entry) (na atomic : List ℤ) (none first both : List Val) → IsProperProgram p → IsJournalRun p entries → na ≡ declared_values p.na → atomic ≡ declared_values p.atomic → none ≡ []
+    → first ≡ none ++ map (last_value_of na entries) (range_with_len 0 (length na)) → both ≡ first ++ map (newest_value_of atomic entries) (range_with_len 0 (length atomic))
+    → both ≡ final_values (state_after p (initial_state p) entries).memory
+values_made p entries na atomic none first both ok run a b e f g =
+    g ∙ (λ i. (f ∙ (λ j. e j ++ map (last_value_of (a j) entries) (range_with_len 0 (length (a j))))) i ++ map (newest_value_of (b i) entries) (range_with_len 0 (length (b i)))) ∙ last_values p entries ok run

@@ -2,3 +2,4 @@ mod Orders
 mod Comparing
 mod LastValues
 mod Placing
+mod Covers

@@ -1,16 +1,21 @@
 -- Where an outcome stands in a rising list.
-use Rattle.std.proofs.Common.{◌≡◌, ◌≢◌, ℕ, zero, suc, ◌+◌, ◌<◌, ◌≤◌, Bool, true, false, List, [], ◌∷◌, length, map, get_or, refl, sym, ap, ◌∙◌, subst, arith}
+use Rattle.std.proofs.Common.{◌≡◌, ◌≢◌, ℕ, zero, suc, ◌+◌, ◌<◌, ◌≤◌, Bool, true, false, List, [], ◌∷◌, length, map, get_or, refl, sym, ap, ◌∙◌, subst, arith, Result, Ok, Err, IfOk, IfErr}
 use Rattle.std.specs.List.{AllByRecursion, Contains, insert}
-use Rattle.std.specs.List.Sorted.{IsSortedBy, IsNonDecreasingBy, IsPartitionPoint}
+use Rattle.std.specs.List.Sorted.{IsSortedBy, IsBinarySearchResult, IsSearchInRange}
 use Rattle.std.specs.declared.cmp.Ordering.{Ordering}
 use Rattle.std.specs.declared.cmp.Ordering.TheVariants.{Less, Equal, Greater}
 use Rattle.std.specs.Ordering.{is_lt, ordering_index, ordering_reverse}
 use Rattle.std.proofs.lemmas.List.{get_or-map, length-map}
 use Rattle.std.proofs.lemmas.List.Edits.{get_or-insert_at, get_or-insert_below, get_or-insert_above, length-insert}
 use Rattle.std.proofs.lemmas.List.Sorted.{searchable_from_sorted}
-use Rattle.outcome_nodes.specs.Outcome.{FinalOutcome}
+use Rattle.outcome_nodes.specs.Outcome.{FinalOutcome, final_outcome_of}
 use Rattle.outcome_list.specs.Order.{outcome_cmp, IsRising}
-use Rattle.outcome_list.specs.List.{IsPlaceFor}
+use Rattle.il_syntax.specs.declared.program.Program.{Program}
+use Rattle.values_undef.specs.declared.journal.Entry.{Entry}
+use Rattle.view_machine.specs.Runs.{IsJournalRun}
+use Rattle.run_choices.specs.Complete.{IsComplete}
+use Rattle.outcome_list.specs.declared.found.Found.{Found}
+use Rattle.outcome_list.specs.List.{seen, IsFound, IsPlaceFor, IsAdded}
 use Rattle.outcome_list.proofs.Orders.{outcomes_total, outcomes_equal}
 
 turned : (o q : FinalOutcome) → outcome_cmp o q ≡ Greater → outcome_cmp q o ≡ Less
@@ -19,15 +24,41 @@ turned o q e = outcomes_total.antisymm q o ∙ ap ordering_reverse e
 not_less : (r : Ordering) → r ≡ Less → is_lt (ordering_reverse r) ≡ false
 not_less r e = ap (λ (s : Ordering). is_lt (ordering_reverse s)) e
 
--- each but the last is less than the next
-adjacent : (os : List FinalOutcome) (k : ℕ) (d : FinalOutcome) → IsRising os → k + 1 < length os → outcome_cmp (get_or os k d) (get_or os (k + 1) d) ≡ Less
-adjacent [] k d h l = absurd (omega (arith, l))
-adjacent (o ∷ []) k d h l = absurd (omega (arith, l))
-adjacent (o ∷ q ∷ os) zero d h l = h.0.0
-adjacent (o ∷ q ∷ os) (suc k) d h l = adjacent (q ∷ os) k d h.1 (omega (arith, l))
+no_found : FinalOutcome → Found
+no_found o = record { outcome = o; journal = [] }
 
-pub sorted : (os : List FinalOutcome) → IsRising os → IsSortedBy (λ a b. is_lt (outcome_cmp a b)) os
-sorted os h k d from l = ap is_lt (outcomes_total.antisymm (get_or os (k + 1) d) (get_or os k d)) ∙ not_less (outcome_cmp (get_or os k d) (get_or os (k + 1) d)) (adjacent os k d h l)
+-- each but the last is less than the next
+adjacent : (list : List Found) (k : ℕ) (d : Found) → IsRising (map seen list) → suc k < length list → outcome_cmp (seen (get_or list k d)) (seen (get_or list (suc k) d)) ≡ Less
+adjacent [] k d h l = absurd (omega (arith, l))
+adjacent (f ∷ []) k d h l = absurd (omega (arith, l))
+adjacent (f ∷ g ∷ list) zero d h l = h.0.0
+adjacent (f ∷ g ∷ list) (suc k) d h l = adjacent (g ∷ list) k d h.1 (omega (arith, l))
+
+sorted : (list : List Found) → IsRising (map seen list) → IsSortedBy (λ f g. is_lt (outcome_cmp (seen f) (seen g))) list
+sorted list h k d from l =
+    let one : suc k ≡ k + 1 = omega arith in
+    let less : outcome_cmp (seen (get_or list k d)) (seen (get_or list (k + 1) d)) ≡ Less =
+    subst (λ (j : ℕ). outcome_cmp (seen (get_or list k d)) (seen (get_or list j d)) ≡ Less) one (adjacent list k d h (omega (arith, l))) in
+    ap is_lt (outcomes_total.antisymm (seen (get_or list (k + 1) d)) (seen (get_or list k d))) ∙ not_less (outcome_cmp (seen (get_or list k d)) (seen (get_or list (k + 1) d))) less
+
+-- what the search of a place tells
+pub place_told : (list : List Found) (o : FinalOutcome) (r : Result ℕ ℕ) → IsRising (map seen list) → IsSearchInRange r (length list) → IsBinarySearchResult (λ f. outcome_cmp (seen f) o) list r
+    → IfOk r (λ k. Contains (map seen list) o) × IfErr r (IsPlaceFor (map seen list) o)
+place_told list o (Ok k) h bound found = (
+  (k, omega (arith, bound, length-map list seen), get_or-map seen list k (no_found o) o bound ∙ outcomes_equal (seen (get_or list k (no_found o))) o (found (no_found o))),
+  tt,
+)
+place_told list o (Err k) h bound found =
+    let at = found (searchable_from_sorted outcomes_total seen list o (sorted list h)) in (
+      tt,
+      record {
+        within = omega (arith, bound, length-map list seen);
+        before = λ j l. ap (λ (q : FinalOutcome). outcome_cmp q o) (get_or-map seen list j (no_found o) o (omega (arith, bound, l))) ∙ at.0 j (no_found o) (omega arith) l;
+        after = λ j from l.
+            let m : j < length list = omega (arith, l, length-map list seen) in
+            ap (λ (q : FinalOutcome). outcome_cmp q o) (get_or-map seen list j (no_found o) o m) ∙ at.1 j (no_found o) from m;
+      },
+    )
 
 -- ---- one more
 
@@ -59,11 +90,26 @@ insert_has xs k x l = (k, omega (arith, length-insert xs k x l, l), get_or-inser
 pub insert_keeps : {X : Type 0} (xs : List X) (k : ℕ) (x y : X) → k ≤ length xs → Contains xs y → Contains (insert xs k x) y
 insert_keeps xs zero x y l c = (suc c.0, omega (arith, c.1), c.2)
 insert_keeps [] (suc k) x y l c = absurd (omega (arith, l))
-insert_keeps (z ∷ xs) (suc k) x y l (zero, c) = (zero, omega arith, c.1)
-insert_keeps (z ∷ xs) (suc k) x y l (suc j, c) =
-    let r = insert_keeps xs k x y (omega (arith, l)) (j, omega (arith, c.0), c.1) in (suc r.0, omega (arith, r.1), r.2)
+insert_keeps (z ∷ xs) (suc k) x y l (zero, below, is) = (zero, omega arith, is)
+insert_keeps (z ∷ xs) (suc k) x y l (suc j, below, is) =
+    let r = insert_keeps xs k x y (omega (arith, l)) (j, omega (arith, below), is) in (suc r.0, omega (arith, r.1), r.2)
 
 pub all_insert : {X : Type 0} (P : X → Type 0) (xs : List X) (k : ℕ) (x : X) → P x → AllByRecursion P xs → AllByRecursion P (insert xs k x)
 all_insert P xs zero x p a = (p, a)
 all_insert P [] (suc k) x p a = (p, tt)
 all_insert P (y ∷ xs) (suc k) x p a = (a.0, all_insert P xs k x p a.1)
+
+-- ---- the list with one run more
+
+pub run_put : (p : Program) (steps : ℕ) (run : List Entry) (list new : List Found) (k : ℕ) (f : Found) → IsJournalRun p run → IsComplete p run steps → IsRising (map seen list) → AllByRecursion (IsFound p steps) list
+    → seen f ≡ final_outcome_of p run → f.journal ≡ run → IsPlaceFor (map seen list) (seen f) k → new ≡ insert list k f → IsAdded p steps run list new
+run_put p steps run list new k f is whole rising found same journal at more = record {
+  rising = subst IsRising (sym here) (put_rising (map seen list) (seen f) k rising at);
+  found = subst (AllByRecursion (IsFound p steps)) (sym more)
+      (all_insert (IsFound p steps) list k f (subst (λ (j : List Entry). IsJournalRun p j × IsComplete p j steps × (final_outcome_of p j ≡ seen f)) (sym journal) (is, whole, sym same)) found);
+  has = subst (λ (os : List FinalOutcome). Contains os (final_outcome_of p run)) (sym here) (subst (λ (o : FinalOutcome). Contains (insert (map seen list) k (seen f)) o) same (insert_has (map seen list) k (seen f) at.within));
+  kept = λ o c. subst (λ (os : List FinalOutcome). Contains os o) (sym here) (insert_keeps (map seen list) k (seen f) o at.within c);
+}
+  where
+    here : map seen new ≡ insert (map seen list) k (seen f)
+    here = ap (map seen) more ∙ map_insert seen list k f

@@ -5,7 +5,7 @@ ghost use Rattle.thread_core.specs.Programs.{IsProperProgram};
 ghost use Rattle.view_machine.specs.Runs.{IsJournalRun};
 ghost use Rattle.run_choices.specs.Complete.{IsComplete};
 ghost use Rattle.outcome_nodes.specs.Outcome.{FinalOutcome, HaveAllOutcomes, IsOutcome, final_outcome_of};
-ghost use Rattle.outcome_list.specs.Order.{IsRising};
+ghost use Rattle.outcome_list.specs.Order.{IsRising, outcome_cmp};
 ghost use Rattle.outcome_list.specs.List.{IsAdded, IsFound, IsPlaceFor, seen};
 
 use crate::found::{Found, Outcome};
@@ -13,6 +13,7 @@ use crate::order::compare;
 use crate::outcome::outcome_of;
 use il_syntax::Program;
 use std::alloc::{AllocError, Global};
+use std::cmp::Ordering;
 use values_undef::{Entry, Journal, NoMemory};
 
 /// Where the outcome stands in the list, or where it would.
@@ -21,7 +22,11 @@ fn place_of(list: &[Found], outcome: &Outcome) -> Result<usize, usize>
     ensures found { IfOk result (λ k. Contains (map seen list.now) outcome.now) }
     ensures place { IfErr result (IsPlaceFor (map seen list.now) outcome.now) }
 {
-    list.binary_search_by(|found| compare(&found.outcome, outcome))
+    list.binary_search_by(
+        |found: &Found| -> Ordering
+            ensures { result ≡ outcome_cmp (seen found.now) outcome.entry.now }
+        { compare(&found.outcome, outcome) },
+    )
 }
 
 /// A copy of a run.
