@@ -18,7 +18,7 @@ loop-k-preserved c =
       found = e.found;
       all = λ j l.
           ⊎_elim
-          (λ (q : j ≡ c.loop-k.k). subst (λ (n : ℕ). Contains after (final_outcome_of p (get_or runs n []))) (sym q) (subst (λ (r : List Entry). Contains after (final_outcome_of p r)) (get_or_default runs c.loop-k.k c.index.result.now [] c.loop-k-test.true) (subst (λ (r : List Entry). Contains after (final_outcome_of p r)) c.index.ensures e.has)))
+          (λ (q : j ≡ c.loop-k.k). subst (λ (n : ℕ). Contains after (final_outcome_of p (get_or runs n []))) (sym q) (subst (λ (r : List Entry). Contains after (final_outcome_of p r)) (get_or_default runs c.loop-k.k c.index.result.now [] (omega (arith, c.loop-k-test.true, c.len-k-end.ensures))) (subst (λ (r : List Entry). Contains after (final_outcome_of p r)) c.index.ensures e.has)))
           (λ (q : j ≡ c.loop-k.k → ⊥). e.kept (final_outcome_of p (get_or runs j [])) (c.loop-k.invariant.all j (omega (arith, l, q))))
           (cases_eq j c.loop-k.k);
     }
