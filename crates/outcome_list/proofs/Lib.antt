@@ -3,3 +3,4 @@ mod Comparing
 mod LastValues
 mod Placing
 mod Covers
+mod Listing

@@ -1,21 +1,21 @@
 -- Where an outcome stands in a rising list.
-use Rattle.std.proofs.Common.{◌≡◌, ◌≢◌, ℕ, zero, suc, ◌+◌, ◌<◌, ◌≤◌, Bool, true, false, List, [], ◌∷◌, length, map, get_or, refl, sym, ap, ◌∙◌, subst, arith, Result, Ok, Err, IfOk, IfErr}
+use Rattle.std.proofs.Common.{◌≡◌, ℕ, zero, suc, ◌+◌, ◌<◌, ◌≤◌, true, false, List, [], ◌∷◌, length, map, get_or, refl, sym, ap, ◌∙◌, subst, arith, ◌⊎◌, inl, inr, ⊎_elim, ltb, Result, Ok, Err, IfOk, IfErr}
 use Rattle.std.specs.List.{AllByRecursion, Contains, insert}
 use Rattle.std.specs.List.Sorted.{IsSortedBy, IsBinarySearchResult, IsSearchInRange}
 use Rattle.std.specs.declared.cmp.Ordering.{Ordering}
 use Rattle.std.specs.declared.cmp.Ordering.TheVariants.{Less, Equal, Greater}
-use Rattle.std.specs.Ordering.{is_lt, ordering_index, ordering_reverse}
+use Rattle.std.specs.Ordering.{is_lt, is_gt, ordering_reverse}
+use Rattle.std.specs.Cmp.{tied_itself}
+use Rattle.std.proofs.lemmas.Bool.{cases_Bool, true≢false, ltb-true, ltb-false}
 use Rattle.std.proofs.lemmas.List.{get_or-map, length-map}
-use Rattle.std.proofs.lemmas.List.Edits.{get_or-insert_at, get_or-insert_below, get_or-insert_above, length-insert}
+use Rattle.std.proofs.lemmas.List.Edits.{get_or-insert_at, length-insert}
 use Rattle.std.proofs.lemmas.List.Sorted.{searchable_from_sorted}
 use Rattle.outcome_nodes.specs.Outcome.{FinalOutcome, final_outcome_of}
 use Rattle.outcome_list.specs.Order.{outcome_cmp, IsRising}
 use Rattle.il_syntax.specs.declared.program.Program.{Program}
 use Rattle.values_undef.specs.declared.journal.Entry.{Entry}
-use Rattle.view_machine.specs.Runs.{IsJournalRun}
-use Rattle.run_choices.specs.Complete.{IsComplete}
 use Rattle.outcome_list.specs.declared.found.Found.{Found}
-use Rattle.outcome_list.specs.List.{seen, IsFound, IsPlaceFor, IsAdded}
+use Rattle.outcome_list.specs.List.{seen, IsPlaceFor, IsAdded, IsNew}
 use Rattle.outcome_list.proofs.Orders.{outcomes_total, outcomes_equal}
 
 turned : (o q : FinalOutcome) → outcome_cmp o q ≡ Greater → outcome_cmp q o ≡ Less
@@ -101,14 +101,41 @@ all_insert P (y ∷ xs) (suc k) x p a = (a.0, all_insert P xs k x p a.1)
 
 -- ---- the list with one run more
 
-pub run_put : (p : Program) (steps : ℕ) (run : List Entry) (list new : List Found) (k : ℕ) (f : Found) → IsJournalRun p run → IsComplete p run steps → IsRising (map seen list) → AllByRecursion (IsFound p steps) list
-    → seen f ≡ final_outcome_of p run → f.journal ≡ run → IsPlaceFor (map seen list) (seen f) k → new ≡ insert list k f → IsAdded p steps run list new
-run_put p steps run list new k f is whole rising found same journal at more = record {
+-- an outcome that has a place in the list isn't there
+not_there : (os : List FinalOutcome) (o : FinalOutcome) (k : ℕ) → IsPlaceFor os o k → Contains os o → ⊥
+not_there os o k at c =
+    let tie : outcome_cmp (get_or os c.0 o) o ≡ Equal = ap (λ (q : FinalOutcome). outcome_cmp q o) c.2 ∙ tied_itself outcomes_total o in
+    ⊎_elim
+    (λ (l : ltb c.0 k ≡ true). absurd (true≢false (ap is_lt (sym (at.before c.0 (ltb-true c.0 k l)) ∙ tie))))
+    (λ (l : ltb c.0 k ≡ false). absurd (true≢false (ap is_gt (sym (at.after c.0 (ltb-false c.0 k l) c.1) ∙ tie))))
+    (cases_Bool (ltb c.0 k))
+
+contained_later : {X : Type 0} (x y : X) (xs : List X) → Contains xs y → Contains (x ∷ xs) y
+contained_later x y xs c = (suc c.0, omega (arith, c.1), c.2)
+
+all_contained_later : {X : Type 0} (x : X) (xs ys : List X) → AllByRecursion (λ y. Contains xs y) ys → AllByRecursion (λ y. Contains (x ∷ xs) y) ys
+all_contained_later x xs [] h = tt
+all_contained_later x xs (y ∷ ys) h = (contained_later x y xs h.0, all_contained_later x xs ys h.1)
+
+all_contained : {X : Type 0} (xs : List X) → AllByRecursion (λ x. Contains xs x) xs
+all_contained [] = tt
+all_contained (x ∷ xs) = ((zero, omega arith, refl), all_contained_later x xs xs (all_contained xs))
+
+all_old : (p : Program) (run : List Entry) (list some : List Found) → AllByRecursion (λ f. Contains list f) some → AllByRecursion (λ f. Contains list f ⊎ IsNew p run list f) some
+all_old p run list [] h = tt
+all_old p run list (f ∷ some) h = (inl h.0, all_old p run list some h.1)
+
+pub run_there : (p : Program) (run : List Entry) (list : List Found) (o : FinalOutcome) → IsRising (map seen list) → o ≡ final_outcome_of p run → Contains (map seen list) o → IsAdded p run list list
+run_there p run list o rising same there = record { rising = rising; has = subst (λ (q : FinalOutcome). Contains (map seen list) q) same there; kept = λ q c. c; each = all_old p run list list (all_contained list) }
+
+pub run_put : (p : Program) (run : List Entry) (list new : List Found) (k : ℕ) (f : Found) → IsRising (map seen list) → seen f ≡ final_outcome_of p run → f.journal ≡ run → IsPlaceFor (map seen list) (seen f) k → new ≡ insert list k f
+    → IsAdded p run list new
+run_put p run list new k f rising same journal at more = record {
   rising = subst IsRising (sym here) (put_rising (map seen list) (seen f) k rising at);
-  found = subst (AllByRecursion (IsFound p steps)) (sym more)
-      (all_insert (IsFound p steps) list k f (subst (λ (j : List Entry). IsJournalRun p j × IsComplete p j steps × (final_outcome_of p j ≡ seen f)) (sym journal) (is, whole, sym same)) found);
   has = subst (λ (os : List FinalOutcome). Contains os (final_outcome_of p run)) (sym here) (subst (λ (o : FinalOutcome). Contains (insert (map seen list) k (seen f)) o) same (insert_has (map seen list) k (seen f) at.within));
   kept = λ o c. subst (λ (os : List FinalOutcome). Contains os o) (sym here) (insert_keeps (map seen list) k (seen f) o at.within c);
+  each = subst (AllByRecursion (λ g. Contains list g ⊎ IsNew p run list g)) (sym more)
+      (all_insert (λ g. Contains list g ⊎ IsNew p run list g) list k f (inr (record { journal = journal; outcome = same; other = not_there (map seen list) (seen f) k at })) (all_old p run list list (all_contained list)));
 }
   where
     here : map seen new ≡ insert (map seen list) k (seen f)

@@ -1,5 +1,5 @@
 -- Lists of outcomes, each with a run that has it.
-use Rattle.std.specs.Prelude.{◌≡◌, ◌&&◌, ◌||◌, not, ℕ, ◌<◌, ◌≤◌, Bool, true, false, List, [], length, map, slice_index_or}
+use Rattle.std.specs.Prelude.{◌≡◌, ◌⊎◌, ◌&&◌, ◌||◌, not, ℕ, ◌<◌, ◌≤◌, Bool, true, false, List, [], length, map, slice_index_or}
 use Rattle.std.specs.List.{AllByRecursion, Contains, list_any, starts_with}
 use Rattle.std.specs.declared.cmp.Ordering.TheVariants.{Less, Greater}
 use Rattle.std.specs.Ordering.{is_eq, int_eq}
@@ -27,12 +27,26 @@ pub record IsPlaceFor (os : List FinalOutcome) (o : FinalOutcome) (k : ℕ) : Ty
   pub before : (j : ℕ) → j < k → outcome_cmp (slice_index_or os j o) o ≡ Less
   pub after : (j : ℕ) → k ≤ j → j < length os → outcome_cmp (slice_index_or os j o) o ≡ Greater
 
--- the list has got the outcome of a run, and has kept those that it had
-pub record IsAdded (p : Program) (steps : ℕ) (run : List Entry) (before after : List Found) : Type 0 where
+-- its journal is the first of the runs, below number k, that has the outcome
+pub record IsFirstOf (p : Program) (runs : List (List Entry)) (k : ℕ) (f : Found) : Type 0 where
+  pub at : ℕ
+  pub there : at < k
+  pub journal : f.journal ≡ slice_index_or runs at []
+  pub outcome : final_outcome_of p f.journal ≡ seen f
+  pub first : (j : ℕ) → j < at → final_outcome_of p (slice_index_or runs j []) ≡ seen f → ⊥
+
+-- it has the journal of the run, and an outcome that the list hasn't
+pub record IsNew (p : Program) (run : List Entry) (list : List Found) (f : Found) : Type 0 where
+  pub journal : f.journal ≡ run
+  pub outcome : seen f ≡ final_outcome_of p run
+  pub other : Contains (map seen list) (seen f) → ⊥
+
+-- the list has got the outcome of a run, has kept what it had, and has got nothing else
+pub record IsAdded (p : Program) (run : List Entry) (before after : List Found) : Type 0 where
   pub rising : IsRising (map seen after)
-  pub found : AllByRecursion (IsFound p steps) after
   pub has : Contains (map seen after) (final_outcome_of p run)
   pub kept : (o : FinalOutcome) → Contains (map seen before) o → Contains (map seen after) o
+  pub each : AllByRecursion (λ f. Contains before f ⊎ IsNew p run before f) after
 
 -- ---- refinement
 

@@ -3,10 +3,9 @@ ghost use Rattle.std.specs.Prelude.{◌≡◌, ℕ, ◌<◌, IfOk, IfErr, OnOk, 
 ghost use Rattle.std.specs.List.{AllByRecursion, Contains};
 ghost use Rattle.thread_core.specs.Programs.{IsProperProgram};
 ghost use Rattle.view_machine.specs.Runs.{IsJournalRun};
-ghost use Rattle.run_choices.specs.Complete.{IsComplete};
 ghost use Rattle.outcome_nodes.specs.Outcome.{FinalOutcome, HaveAllOutcomes, IsOutcome, final_outcome_of};
 ghost use Rattle.outcome_list.specs.Order.{IsRising, outcome_cmp};
-ghost use Rattle.outcome_list.specs.List.{IsAdded, IsFound, IsPlaceFor, seen};
+ghost use Rattle.outcome_list.specs.List.{IsAdded, IsFirstOf, IsFound, IsPlaceFor, seen};
 
 use crate::found::{Found, Outcome};
 use crate::order::compare;
@@ -38,19 +37,11 @@ fn copied(alloc: Global, run: &Journal) -> Result<Journal, AllocError>
 }
 
 /// Puts the outcome of a run into the list, unless it stands there.
-fn add_run(
-    alloc: Global,
-    p: &Program,
-    _steps: u64,
-    run: &Journal,
-    list: &mut Vec<Found>,
-) -> Result<(), NoMemory>
+fn add_run(alloc: Global, p: &Program, run: &Journal, list: &mut Vec<Found>) -> Result<(), NoMemory>
     requires proper { IsProperProgram p.now }
     requires run { IsJournalRun p.now run.now }
-    requires complete { IsComplete p.now run.now _steps }
     requires rising { IsRising (map seen list.old.items) }
-    requires found { AllByRecursion (IsFound p.now _steps) list.old.items }
-    ensures { OnOk result (IsAdded p.now _steps run.now list.old.items list.new.items) }
+    ensures { OnOk result (IsAdded p.now run.now list.old.items list.new.items) }
 {
     let outcome = outcome_of(alloc, p, run)?;
     if let Err(place) = place_of(list.as_slice(), &outcome) {
@@ -72,10 +63,11 @@ pub fn listed(
     ensures nothing_missed { IfOk result (λ list. (o : FinalOutcome) → IsOutcome p.now _steps o → Contains (map seen list.items) o) }
     ensures nothing_invented { IfOk result (λ list. AllByRecursion (IsFound p.now _steps) list.items) }
     ensures each_once { IfOk result (λ list. IsRising (map seen list.items)) }
+    ensures first { IfOk result (λ list. AllByRecursion (IsFirstOf p.now runs.items (length runs.items)) list.items) }
 {
     let mut list = Vec::new(alloc);
     for k in 0..runs.len() {
-        add_run(alloc, p, _steps, &runs[k], &mut list)?;
+        add_run(alloc, p, &runs[k], &mut list)?;
     }
     Ok(list)
 }

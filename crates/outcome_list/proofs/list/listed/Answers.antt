@@ -1,33 +1,34 @@
-use Rattle.std.proofs.Common.{◌≡◌, ◌∙◌, ⊎_elim, ℕ, List, [], length, map, get_or, sym, ap, subst, arith}
-use Rattle.std.specs.List.{Contains}
-use Rattle.std.proofs.lemmas.Bool.{cases_eq}
-use Rattle.std.proofs.lemmas.List.{get_or-map, get_or_default, length-map}
+use Rattle.std.proofs.Common.{◌<◌, List, [], length, subst, arith}
+use Rattle.std.proofs.lemmas.List.{get_or_default}
 use Rattle.values_undef.specs.declared.journal.Entry.{Entry}
-use Rattle.outcome_nodes.specs.Outcome.{FinalOutcome, final_outcome_of}
-use Rattle.outcome_list.specs.List.{seen}
+use Rattle.outcome_list.specs.List.{IsAdded}
+use Rattle.outcome_list.proofs.Listing.{first_more, those_more, nothing_missed, nothing_invented, first_at_end}
 use Rattle.outcome_list.proofs.list.listed.Goals as goal
 
 pub loop-k-preserved : goal.loop-k-preserved
 loop-k-preserved c =
-    let e = c.in_ok-add_run.ensures in
     let p = c.args.p.now in
     let runs = c.args.runs.items in
-    let after = map seen c.add_run.new.list.items in
+    let k = c.loop-k.k in
+    let before = c.loop-k.list.items in
+    let after = c.add_run.new.list.items in
+    let there : k < length runs = omega (arith, c.loop-k-test.true, c.len-k-end.ensures) in
+    let added =
+    subst (λ (r : List Entry). IsAdded p r before after) (get_or_default runs k c.index.result.now [] there) (subst (λ (r : List Entry). IsAdded p r before after) c.index.ensures c.in_ok-add_run.ensures) in
     record {
-      rising = e.rising;
-      found = e.found;
-      all = λ j l.
-          ⊎_elim
-          (λ (q : j ≡ c.loop-k.k). subst (λ (n : ℕ). Contains after (final_outcome_of p (get_or runs n []))) (sym q) (subst (λ (r : List Entry). Contains after (final_outcome_of p r)) (get_or_default runs c.loop-k.k c.index.result.now [] (omega (arith, c.loop-k-test.true, c.len-k-end.ensures))) (subst (λ (r : List Entry). Contains after (final_outcome_of p r)) c.index.ensures e.has)))
-          (λ (q : j ≡ c.loop-k.k → ⊥). e.kept (final_outcome_of p (get_or runs j [])) (c.loop-k.invariant.all j (omega (arith, l, q))))
-          (cases_eq j c.loop-k.k);
+      within = omega (arith, there);
+      rising = added.rising;
+      first = first_more p runs k before after added c.loop-k.invariant.all c.loop-k.invariant.first;
+      all = those_more p runs k before after added c.loop-k.invariant.all;
     }
 
 pub returns-clause-nothing_missed : goal.returns-clause-nothing_missed
-returns-clause-nothing_missed c = λ o is.
-    let p = c.args.p.now in
-    let runs = c.args.runs.items in
-    let at = c.requires.all.all o is in
-    let l = length-map runs (final_outcome_of p) in
-    subst (λ (q : FinalOutcome). Contains (map seen c.loop-k.list.items) q) (sym (get_or-map (final_outcome_of p) runs at.0 [] o (omega (arith, l, at.1))) ∙ at.2)
-    (c.loop-k.invariant.all at.0 (omega (arith, l, at.1, c.loop-k-test.false)))
+returns-clause-nothing_missed c =
+    nothing_missed c.args.p.now c.args._steps c.loop-k.k c.args.runs.items c.loop-k.list.items c.requires.all (omega (arith, c.loop-k-test.false, c.len-k-end.ensures)) c.loop-k.invariant.all
+
+pub returns-clause-nothing_invented : goal.returns-clause-nothing_invented
+returns-clause-nothing_invented c =
+    nothing_invented c.args.p.now c.args._steps c.loop-k.k c.args.runs.items c.loop-k.list.items c.requires.all c.loop-k.invariant.within c.loop-k.invariant.first
+
+pub returns-clause-first : goal.returns-clause-first
+returns-clause-first c = first_at_end c.args.p.now c.loop-k.k c.args.runs.items c.loop-k.list.items c.loop-k.invariant.within (omega (arith, c.loop-k-test.false, c.len-k-end.ensures)) c.loop-k.invariant.first
