@@ -1,0 +1,6 @@
+mod Orders
+mod Comparing
+mod LastValues
+mod Placing
+mod Covers
+mod Listing

@@ -1,0 +1,4 @@
+pub mod Order
+pub mod List
+pub mod Values
+pub mod Laws

@@ -1,0 +1,55 @@
+//! Whether the outcomes of one program are covered by those of another.
+ghost use Rattle.std.specs.Prelude.{◌≡◌};
+ghost use Rattle.std.specs.List.{position, list_any, starts_with};
+ghost use Rattle.std.specs.Ordering.{int_eq};
+ghost use Rattle.std.specs.Cmp.Lexicographic.{pointwise};
+ghost use Rattle.outcome_list.specs.List.{covers, is_failed, is_missed, seen};
+
+use crate::found::{Found, Outcome};
+use crate::order::compare;
+use values_undef::Ending;
+
+/// Whether the ending is a failure.
+fn is_failed(ending: Ending) -> bool
+    ensures { result ≡ is_failed ending }
+{
+    matches!(ending, Ending::Failed)
+}
+
+/// Whether what each thread has printed in the one is a beginning of what it has printed in the other.
+fn are_begun(begun: &[Vec<i64>], whole: &[Vec<i64>]) -> bool
+    ensures { result ≡ pointwise (λ v w. starts_with int_eq w.items v.items) begun.now whole.now }
+{
+    if begun.len() != whole.len() {
+        return false;
+    }
+    for k in 0..begun.len() {
+        if !whole[k].as_slice().starts_with(begun[k].as_slice()) {
+            return false;
+        }
+    }
+    true
+}
+
+/// Whether the outcome of the source covers that of the target.
+fn covers(q: &Outcome, o: &Outcome) -> bool
+    ensures { result ≡ covers q.now o.now }
+{
+    compare(q, o).is_eq()
+        || (is_failed(q.ending) && are_begun(q.printed.as_slice(), o.printed.as_slice()))
+}
+
+/// Whether an outcome of the source covers that of the target.
+fn is_covered(source: &[Found], found: &Found) -> bool
+    ensures { result ≡ list_any (λ g. covers (seen g) (seen found.now)) source.now }
+{
+    source.iter().any(|g| covers(&g.outcome, &found.outcome))
+}
+
+/// The place of the first outcome of the target that the source doesn't have, and of which it has no beginning that has failed.
+/// `None` comes exactly where there is none.
+pub fn refines(target: &[Found], source: &[Found]) -> Option<usize>
+    ensures { result ≡ position (is_missed source.now) target.now }
+{
+    target.iter().position(|found| !is_covered(source, found))
+}
