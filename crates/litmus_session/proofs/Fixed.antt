@@ -10,10 +10,11 @@ use Rattle.litmus.specs.Table.{IsOutcomeTable}
 use Rattle.litmus.specs.declared.table.Sample.{Sample}
 use Rattle.litmus.proofs.Callers.{one_table}
 use Rattle.litmus_text.specs.Expectation.{Expected}
+use Rattle.litmus_text.specs.Output.{are_met, verdict_lines}
 use Rattle.litmus_text.specs.declared.fault.LitmusRule.{LitmusRule}
 use Rattle.litmus_text.proofs.Callers.{input_unrefused, one_input, one_refusal}
 use Rattle.litmus_session.specs.Laws.{AgreesButForSources, VerdictsAreFixed, same, same_table}
-use Rattle.litmus_session.specs.Session.{AreRowsText, IsJudgedTable, are_met, judged, outcome_of_row, unread, verdict_lines}
+use Rattle.litmus_session.specs.Session.{AreRowsText, IsJudgedTable, judged, outcome_of_row, unread}
 use Rattle.litmus_session.specs.declared.answer.LitmusAnswer.{LitmusAnswer}
 use Rattle.litmus_session.specs.declared.answer.LitmusAnswer.TheVariants.{Judged, Refused}
 

@@ -1,17 +1,17 @@
 -- What is answered to an input.
 use Rattle.std.specs.Prelude.{◌≡◌, ℕ, ◌^◌, ◌<◌, ◌≤◌, ◌++◌, Bool, List, length, map}
-use Rattle.std.specs.List.{AllZip, flat_map, list_all}
+use Rattle.std.specs.List.{AllZip, flat_map}
 use Rattle.values_undef.specs.declared.journal.Entry.{Entry}
 use Rattle.il_syntax.specs.declared.program.Program.{Program}
 use Rattle.il_reader.specs.Refusal.{Refusal}
-use Rattle.text_parts.specs.Lines.{Text, whole_line}
+use Rattle.text_parts.specs.Lines.{Text}
 use Rattle.simulation.specs.Conditions.{IsLifted}
 use Rattle.reports.specs.Targets.{IsOptimised}
 use Rattle.litmus.specs.Outcome.{EndAndOutputs, outcome_in}
 use Rattle.litmus.specs.Table.{IsOutcomeTable}
 use Rattle.litmus.specs.declared.table.Sample.{Sample}
 use Rattle.litmus_text.specs.Expectation.{Expected}
-use Rattle.litmus_text.specs.Output.{is_met, outcome_text, verdict_line}
+use Rattle.litmus_text.specs.Output.{are_met, outcome_text, verdict_lines}
 use Rattle.litmus_text.specs.Reading.{ReadsLitmus, IsFirstLitmusRefusal}
 use Rattle.litmus_text.specs.declared.fault.LitmusRule.{LitmusRule}
 use Rattle.litmus_session.specs.declared.answer.LitmusAnswer.{LitmusAnswer}
@@ -40,13 +40,6 @@ pub record AreRowsText (given target : Program) (samples : List Sample) (text : 
   pub pieces : List Text
   pub each : AllZip (IsRowText given target) samples pieces
   pub is : text ≡ flat_map (λ t. t) pieces
-
--- a line for each expectation
-abbrev pub verdict_lines : List Expected → List EndAndOutputs → Text
-verdict_lines expectations outcomes = flat_map (λ e. whole_line (verdict_line (is_met e outcomes))) expectations
-
-abbrev pub are_met : List Expected → List EndAndOutputs → Bool
-are_met expectations outcomes = list_all (λ e. is_met e outcomes) expectations
 
 -- The table of the target of the passes is written, and whether each expectation is met by its outcomes; and it is told whether
 -- all are.

@@ -1,36 +1,17 @@
 //! Expectations, judged by the outcomes of a table.
-ghost use Rattle.std.specs.Prelude.{◌≡◌, ◌++◌, IfOk, OnOk};
+ghost use Rattle.std.specs.Prelude.{IfOk};
 ghost use Rattle.il_syntax.specs.WellFormed.{IsWellFormed};
-ghost use Rattle.litmus_session.specs.Session.{HasLitmusCondition, IsJudgedTable, are_met, verdict_lines};
+ghost use Rattle.litmus_session.specs.Session.{HasLitmusCondition, IsJudgedTable};
 
 use crate::outcomes::{Written, rows};
 use il_syntax::Program;
-use litmus::{RunOutcome, litmus};
-use litmus_text::{Expectation, is_met, push_verdict};
+use litmus::litmus;
+use litmus_text::{Expectation, push_verdicts};
 use message_memory::MessageMemory;
 use reports::{optimised, target};
 use std::alloc::Global;
 use std::thread::Threads;
 use values_undef::NoMemory;
-
-/// Puts a line for each expectation to the end, and tells whether all are met.
-fn push_verdicts(
-    alloc: Global,
-    out: &mut Vec<u8>,
-    expectations: &[Expectation],
-    outcomes: &[RunOutcome],
-) -> Result<bool, NoMemory>
-    ensures written { OnOk result (out.new.items ≡ out.old.items ++ verdict_lines expectations.now outcomes.now) }
-    ensures met { IfOk result (λ met. met ≡ are_met expectations.now outcomes.now) }
-{
-    let mut all = true;
-    for expectation in expectations {
-        let met = is_met(alloc, expectation, outcomes)?;
-        push_verdict(out, met)?;
-        all = all && met;
-    }
-    Ok(all)
-}
 
 /// What is written of a program and its expectations, and whether all of these are met.
 #[derive(Drop)]

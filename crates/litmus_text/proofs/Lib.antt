@@ -2,6 +2,7 @@ mod ExpectationWords
 mod ExpectationSteps
 mod ExpectationLines
 mod EachExpectation
+mod Verdicts
 mod Parts
 mod OneInput
 mod EachInput

@@ -1,7 +1,7 @@
 -- The output: the outcomes of a table with their journals, and whether each expectation is met.
 use Rattle.std.specs.Prelude.{ℕ, ◌++◌, ◌∷◌, [], List, Bool, true, false, not, codes, if◌then◌else◌}
 use Rattle.std.specs.Fmt.{decimal, signed_decimal}
-use Rattle.std.specs.List.{flat_map, join_with_byte, list_any}
+use Rattle.std.specs.List.{flat_map, join_with_byte, list_all, list_any}
 use Rattle.values_undef.specs.declared.journal.Ending.TheVariants.{Done}
 use Rattle.values_undef.specs.declared.journal.Entry.{Entry}
 use Rattle.il_syntax.specs.declared.program.Program.{Program}
@@ -49,3 +49,10 @@ is_met e outcomes = if e.some then list_any (same_outcome (wanted e)) outcomes e
 abbrev pub verdict_line : Bool → Text
 verdict_line true = codes "met"
 verdict_line false = codes "unmet"
+
+-- a line for each expectation
+abbrev pub verdict_lines : List Expected → List EndAndOutputs → Text
+verdict_lines expectations outcomes = flat_map (λ e. whole_line (verdict_line (is_met e outcomes))) expectations
+
+abbrev pub are_met : List Expected → List EndAndOutputs → Bool
+are_met expectations outcomes = list_all (λ e. is_met e outcomes) expectations

@@ -18,4 +18,4 @@ pub use expectation::Expectation;
 pub use expectations::{ExpectationsFault, MOST_EXPECTATIONS, read_expectations};
 pub use fault::LitmusRule;
 pub use input::{LitmusInput, read_litmus};
-pub use output::{is_met, push_outcome, push_verdict};
+pub use output::{push_ending, push_outcome, push_outputs, push_titled, push_verdicts};

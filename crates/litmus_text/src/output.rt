@@ -6,7 +6,7 @@ ghost use Rattle.journal_text.specs.Report.{end_line, entry_lines};
 ghost use Rattle.std.specs.List.{list_any};
 ghost use Rattle.litmus.specs.Outcome.{same_outcome};
 ghost use Rattle.text_parts.specs.Lines.{whole_line};
-ghost use Rattle.litmus_text.specs.Output.{sample_line, is_met, outcome_text, printed_line, printed_lines, titled_entries, verdict_line, wanted};
+ghost use Rattle.litmus_text.specs.Output.{are_met, sample_line, is_met, outcome_text, printed_line, printed_lines, titled_entries, verdict_line, verdict_lines, wanted};
 
 use crate::expectation::Expectation;
 use il_syntax::Program;
@@ -33,7 +33,8 @@ fn push_counts(out: &mut Vec<u8>, sample: &Sample) -> Result<(), AllocError>
     push(out, b"\n")
 }
 
-fn push_ending(out: &mut Vec<u8>, ending: Ending) -> Result<(), AllocError>
+/// Puts the line of an ending to the end.
+pub fn push_ending(out: &mut Vec<u8>, ending: Ending) -> Result<(), AllocError>
     ensures { OnOk result (out.new.items ≡ out.old.items ++ whole_line (end_line ending)) }
 {
     match ending {
@@ -52,7 +53,8 @@ fn push_printed(out: &mut Vec<u8>, output: Printed) -> Result<(), AllocError>
     push(out, b"\n")
 }
 
-fn push_outputs(out: &mut Vec<u8>, outputs: &[Printed]) -> Result<(), AllocError>
+/// Puts a line for each output to the end.
+pub fn push_outputs(out: &mut Vec<u8>, outputs: &[Printed]) -> Result<(), AllocError>
     ensures { OnOk result (out.new.items ≡ out.old.items ++ printed_lines outputs.now) }
 {
     for output in outputs {
@@ -77,8 +79,8 @@ fn push_entries(out: &mut Vec<u8>, p: &Program, entries: &[Entry]) -> Result<(),
     Ok(())
 }
 
-/// Entries under a title line.
-fn push_titled(
+/// Puts entries under a title line to the end.
+pub fn push_titled(
     out: &mut Vec<u8>,
     title: &[u8],
     p: &Program,
@@ -148,4 +150,23 @@ pub fn push_verdict(out: &mut Vec<u8>, met: bool) -> Result<(), NoMemory>
         push(out, b"unmet\n")?;
     }
     Ok(())
+}
+
+/// Puts a line for each expectation to the end, and tells whether all are met by these outcomes. The only error is want of memory.
+pub fn push_verdicts(
+    alloc: Global,
+    out: &mut Vec<u8>,
+    expectations: &[Expectation],
+    outcomes: &[RunOutcome],
+) -> Result<bool, NoMemory>
+    ensures written { OnOk result (out.new.items ≡ out.old.items ++ verdict_lines expectations.now outcomes.now) }
+    ensures met { IfOk result (λ met. met ≡ are_met expectations.now outcomes.now) }
+{
+    let mut all = true;
+    for expectation in expectations {
+        let met = is_met(alloc, expectation, outcomes)?;
+        push_verdict(out, met)?;
+        all = all && met;
+    }
+    Ok(all)
 }

@@ -1,6 +1,6 @@
 use Rattle.std.proofs.Common.{◌≡◌, ◌++◌, take}
-use Rattle.litmus_session.specs.Session.{are_met, verdict_lines}
-use Rattle.litmus_session.proofs.judging.push_verdicts.Given as goal
+use Rattle.litmus_text.specs.Output.{are_met, verdict_lines}
+use Rattle.litmus_text.proofs.output.push_verdicts.Given as goal
 
 abbrev pub invariant-loop-expectation : goal.invariant-loop-expectation
 invariant-loop-expectation l = record {

@@ -1,0 +1,6 @@
+mod Lists
+mod Keeping
+mod Placing
+mod Counting
+mod Exploring
+mod Showing

@@ -1,0 +1,5 @@
+mod Printing
+mod Judging
+mod Lines
+mod Answered
+pub mod Callers

@@ -1,0 +1,4 @@
+pub mod Output
+pub mod Session
+pub mod Telling
+pub mod Laws
