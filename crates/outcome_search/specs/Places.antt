@@ -29,6 +29,6 @@ pub record ArePlaces (p : Program) (steps : ℕ) (runs : List (List Entry)) (pla
 abbrev pub HasNodeAt : Program → ℕ → List (List Entry) → List ℕ → Node → Type 0
 HasNodeAt p steps runs places n = (i : ℕ) × Contains places i × (slice_index_or (nodes_of p steps runs) i n ≡ n)
 
-pub record IsTable (p : Program) (steps limit : ℕ) (table : Table) : Type 0 where
+pub record IsNodeTable (p : Program) (steps limit : ℕ) (table : Table) : Type 0 where
   pub runs : AreKeptRuns p steps limit table.runs.items
   pub places : ArePlaces p steps table.runs.items (places_at table.places)

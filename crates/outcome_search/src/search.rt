@@ -6,7 +6,7 @@ ghost use Rattle.outcome_nodes.specs.Nodes.{Node};
 ghost use Rattle.outcome_nodes.specs.Standing.{node_of};
 ghost use Rattle.outcome_moves.specs.declared.moves.Move.{Move as TheMove};
 ghost use Rattle.outcome_search.specs.Runs.{nodes_of, Extends, AreCompleteRuns, HasMoreNodes};
-ghost use Rattle.outcome_search.specs.Places.{IsTable};
+ghost use Rattle.outcome_search.specs.Places.{IsNodeTable};
 ghost use Rattle.outcome_search.specs.Search.{IsUsable, IsEntered, IsExplored, HasAllNodes};
 
 use crate::stop::Stop;
@@ -29,10 +29,10 @@ fn enter(
 ) -> Result<(), Stop>
     requires proper { IsProperProgram p.now }
     requires limit { limit ≤ 2 ^ 30 }
-    requires kept { IsTable p.now _steps limit kept.old }
+    requires kept { IsNodeTable p.now _steps limit kept.old }
     requires complete { AreCompleteRuns p.now _steps failed.old.items }
     requires usable { IsUsable p.now _steps (length kept.old.runs.items + 1) m }
-    ensures kept { OnOk result (IsTable p.now _steps limit kept.new) }
+    ensures kept { OnOk result (IsNodeTable p.now _steps limit kept.new) }
     ensures complete { OnOk result (AreCompleteRuns p.now _steps failed.new.items) }
     ensures grows { OnOk result (Extends kept.old.runs.items kept.new.runs.items) }
     ensures grows_too { OnOk result (Extends failed.old.items failed.new.items) }
@@ -60,10 +60,10 @@ fn enter_all(
 ) -> Result<(), Stop>
     requires proper { IsProperProgram p.now }
     requires limit { limit ≤ 2 ^ 30 }
-    requires kept { IsTable p.now _steps limit kept.old }
+    requires kept { IsNodeTable p.now _steps limit kept.old }
     requires complete { AreCompleteRuns p.now _steps failed.old.items }
     requires usable { AllByRecursion (IsUsable p.now _steps (length kept.old.runs.items + 1)) moves.items }
-    ensures kept { OnOk result (IsTable p.now _steps limit kept.new) }
+    ensures kept { OnOk result (IsNodeTable p.now _steps limit kept.new) }
     ensures complete { OnOk result (AreCompleteRuns p.now _steps failed.new.items) }
     ensures grows { OnOk result (Extends kept.old.runs.items kept.new.runs.items) }
     ensures grows_too { OnOk result (Extends failed.old.items failed.new.items) }
@@ -90,10 +90,10 @@ fn explore(
     requires proper { IsProperProgram p.now }
     requires steps { steps < 2 ^ 32 }
     requires limit { limit ≤ 2 ^ 30 }
-    requires kept { IsTable p.now steps limit kept.old }
+    requires kept { IsNodeTable p.now steps limit kept.old }
     requires complete { AreCompleteRuns p.now steps failed.old.items }
     requires there { at < length kept.old.runs.items }
-    ensures kept { OnOk result (IsTable p.now steps limit kept.new) }
+    ensures kept { OnOk result (IsNodeTable p.now steps limit kept.new) }
     ensures complete { OnOk result (AreCompleteRuns p.now steps failed.new.items) }
     ensures grows { OnOk result (Extends kept.old.runs.items kept.new.runs.items) }
     ensures grows_too { OnOk result (Extends failed.old.items failed.new.items) }

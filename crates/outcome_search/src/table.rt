@@ -5,7 +5,7 @@ ghost use Rattle.thread_core.specs.Programs.{IsProperProgram};
 ghost use Rattle.outcome_nodes.specs.Standing.{node_of, IsNodeRun};
 ghost use Rattle.equal_nodes.specs.Key.{key_of};
 ghost use Rattle.outcome_search.specs.Runs.{nodes_of, Extends, IsShortRun, AreShortRuns, HasMoreNodes};
-ghost use Rattle.outcome_search.specs.Places.{places_at, HasNodeAt, IsTable};
+ghost use Rattle.outcome_search.specs.Places.{places_at, HasNodeAt, IsNodeTable};
 
 use crate::stop::Stop;
 use equal_nodes::{key_of, same_node};
@@ -59,7 +59,7 @@ fn has(
 ) -> Result<bool, NoMemory>
     requires proper { IsProperProgram p.now }
     requires limit { _limit ≤ 2 ^ 30 }
-    requires kept { IsTable p.now _steps _limit kept.now }
+    requires kept { IsNodeTable p.now _steps _limit kept.now }
     requires key { key ≡ key_of (node_of p.now _steps entries.now).told }
     requires run { IsNodeRun p.now _steps entries.now }
     requires few_entries { length entries.now < 2 ^ 32 }
@@ -90,9 +90,9 @@ pub(crate) fn add(
 ) -> Result<(), Stop>
     requires proper { IsProperProgram p.now }
     requires limit { limit ≤ 2 ^ 30 }
-    requires kept { IsTable p.now _steps limit kept.old }
+    requires kept { IsNodeTable p.now _steps limit kept.old }
     requires run { IsShortRun p.now _steps (length kept.old.runs.items + 1) run }
-    ensures kept { OnOk result (IsTable p.now _steps limit kept.new) }
+    ensures kept { OnOk result (IsNodeTable p.now _steps limit kept.new) }
     ensures grows { OnOk result (Extends kept.old.runs.items kept.new.runs.items) }
     ensures added { OnOk result (Contains (nodes_of p.now _steps kept.new.runs.items) (node_of p.now _steps run)) }
     ensures many { IfErr result (λ stop. stop ≡ Stop.TooMany → HasMoreNodes p.now _steps limit) }

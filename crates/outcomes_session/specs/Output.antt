@@ -37,5 +37,5 @@ found_text p f =
     ++ (final_lines p f.outcome.ending f.outcome.values ++ titled_entries (codes "journal") p f.journal)))
 
 -- how many there are
-abbrev pub count_line : ℕ → Text
-count_line n = codes "outcomes " ++ decimal n
+abbrev pub outcomes_line : ℕ → Text
+outcomes_line n = codes "outcomes " ++ decimal n

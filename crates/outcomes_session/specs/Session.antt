@@ -11,10 +11,10 @@ use Rattle.litmus_text.specs.Reading.{ReadsLitmus, IsFirstLitmusRefusal}
 use Rattle.litmus_text.specs.declared.fault.LitmusRule.{LitmusRule}
 use Rattle.outcome_nodes.specs.Outcome.{FinalOutcome, IsOutcome}
 use Rattle.outcome_search.specs.Runs.{HasMoreNodes}
-use Rattle.outcome_list.specs.List.{IsFound, seen}
-use Rattle.outcome_list.specs.Order.{IsRising}
+use Rattle.outcome_list.specs.List.{IsFound, outcome_seen}
+use Rattle.outcome_list.specs.Order.{IsRisingList}
 use Rattle.outcome_list.specs.declared.found.Found.{Found}
-use Rattle.outcomes_session.specs.Output.{count_line, found_text}
+use Rattle.outcomes_session.specs.Output.{outcomes_line, found_text}
 use Rattle.outcomes_session.specs.declared.answer.OutcomesAnswer.{OutcomesAnswer}
 use Rattle.outcomes_session.specs.declared.answer.OutcomesAnswer.TheVariants.{Refused, TooMany, Told}
 
@@ -27,9 +27,9 @@ pub record HasOutcomesCondition (steps states : ℕ) : Type 0 where
 
 -- the list has the outcome of each run that is complete for the budget, and no other, each once and in the fixed order
 pub record AreAllOutcomes (p : Program) (steps : ℕ) (list : List Found) : Type 0 where
-  pub nothing_missed : (o : FinalOutcome) → IsOutcome p steps o → Contains (map seen list) o
+  pub nothing_missed : (o : FinalOutcome) → IsOutcome p steps o → Contains (map outcome_seen list) o
   pub nothing_invented : AllByRecursion (IsFound p steps) list
-  pub each_once : IsRising (map seen list)
+  pub each_once : IsRisingList (map outcome_seen list)
 
 -- what the runs of the list come to: how they end and what they print
 abbrev pub told_outcomes : Program → List Found → List EndAndOutputs
@@ -39,7 +39,7 @@ told_outcomes p list = map (λ f. outcome_in f.journal (length p.threads)) list
 pub record IsToldOf (p : Program) (expectations : List Expected) (steps : ℕ) (text : Text) (met : Bool) : Type 0 where
   pub list : List Found
   pub outcomes : AreAllOutcomes p steps list
-  pub written : text ≡ flat_map (found_text p) list ++ (verdict_lines expectations (told_outcomes p list) ++ whole_line (count_line (length list)))
+  pub written : text ≡ flat_map (found_text p) list ++ (verdict_lines expectations (told_outcomes p list) ++ whole_line (outcomes_line (length list)))
   pub all : met ≡ are_met expectations (told_outcomes p list)
 
 -- The answer: the first refusal of the input; or that its program has more nodes than the search may come to; or, where it

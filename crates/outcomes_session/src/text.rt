@@ -3,7 +3,7 @@ ghost use Rattle.std.specs.Prelude.{◌≡◌, ◌++◌, ℕ, ◌<◌, ◌^◌, 
 ghost use Rattle.std.specs.Fmt.{decimal};
 ghost use Rattle.text_parts.specs.Lines.{whole_line};
 ghost use Rattle.litmus.specs.Outcome.{outcome_in};
-ghost use Rattle.outcomes_session.specs.Output.{value_line, value_lines, final_lines, found_text, count_line};
+ghost use Rattle.outcomes_session.specs.Output.{value_line, value_lines, final_lines, found_text, outcomes_line};
 
 use il_syntax::{Location, Program};
 use itoa::Buffer;
@@ -101,7 +101,7 @@ pub(crate) fn push_found(
 
 /// Puts the line of how many outcomes there are to the end.
 pub(crate) fn push_count(out: &mut Vec<u8>, n: usize) -> Result<(), NoMemory>
-    ensures { OnOk result (out.new.items ≡ out.old.items ++ whole_line (count_line n)) }
+    ensures { OnOk result (out.new.items ≡ out.old.items ++ whole_line (outcomes_line n)) }
 {
     let mut buffer = Buffer::new();
     push(out, b"outcomes ")?;
