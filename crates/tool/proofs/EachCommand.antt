@@ -1,7 +1,7 @@
 -- The facts of each command, and its condition where words mean it.
 use Rattle.std.proofs.Common.{ℕ, ◌^◌, ◌<◌, ◌≤◌, true, false, List, Option, Some, None, arith}
 use Rattle.words.specs.declared.command.Command.{Command}
-use Rattle.words.specs.declared.command.Command.TheVariants.{Check, Opt, Tidy, Validate, Seq, Walk, Run, Replay, Graph, Litmus, Gen}
+use Rattle.words.specs.declared.command.Command.TheVariants.{Check, Opt, Tidy, Validate, Seq, Walk, Run, Replay, Graph, Litmus, Outcomes, Gen}
 use Rattle.words.specs.Meaning.{GivesNumber, Means}
 use Rattle.reports.specs.Targets.{IsOptimised, IsTidiedTarget}
 use Rattle.tool.specs.Commands.{meaning_of, HasCondition}
@@ -17,6 +17,7 @@ use Rattle.tool.proofs.ReportFacts.{report_facts}
 use Rattle.tool.proofs.ReplayFacts.{replay_facts}
 use Rattle.tool.proofs.GraphFacts.{graph_facts}
 use Rattle.tool.proofs.LitmusFacts.{litmus_facts}
+use Rattle.tool.proofs.OutcomesFacts.{outcomes_facts}
 use Rattle.tool.proofs.GenFacts.{gen_facts}
 
 pub command_facts : (command : Command) → CommandFacts (meaning_of command)
@@ -30,6 +31,7 @@ command_facts (Run seed steps) = report_facts true IsOptimised (IsThreadedRun se
 command_facts Replay = replay_facts
 command_facts Graph = graph_facts
 command_facts (Litmus seed seeds steps) = litmus_facts seed seeds steps
+command_facts (Outcomes steps states) = outcomes_facts steps states
 command_facts (Gen number functions form) = gen_facts number functions form
 
 gives_budget : (o : Option (List ℕ)) (n : ℕ) → GivesNumber 1 16384 1000 o n → (1 ≤ n) × (n ≤ 16384)
@@ -56,6 +58,10 @@ of_values (Litmus seed seeds steps) words m =
     let counts = gives_within 500 100 _ seeds (omega arith) (omega arith) m.values.1 in
     let budget = gives_within 100 100 _ steps (omega arith) (omega arith) m.values.2 in
     record { small = gives_first _ seed m.values.0; some = counts.0; few = counts.1; some_steps = budget.0; few_steps = budget.1 }
+of_values (Outcomes steps states) words m =
+    let budget = gives_within 100 100 _ steps (omega arith) (omega arith) m.values.0 in
+    let nodes = gives_within 1048576 65536 _ states (omega arith) (omega arith) m.values.1 in
+    record { some_steps = budget.0; few_steps = budget.1; some_states = nodes.0; few_states = nodes.1 }
 of_values (Gen number functions form) words m = gives_functions _ functions m.values.1
 of_values _ words m = tt
 

@@ -6,6 +6,7 @@ ghost use Rattle.tool.specs.Commands.{limit_of, HasCondition, WaitsForNothing, I
 ghost use Rattle.tool.specs.Outputs.{IsWithinLimit};
 
 mod checking;
+mod exploring;
 mod generating;
 mod graphing;
 mod optimising;
@@ -36,7 +37,8 @@ pub(crate) fn limit(command: &Command) -> Option<u64>
         | Command::Tidy { .. }
         | Command::Walk { .. }
         | Command::Run { .. }
-        | Command::Litmus { .. } => Some(TEXT_LIMIT),
+        | Command::Litmus { .. }
+        | Command::Outcomes { .. } => Some(TEXT_LIMIT),
         Command::Validate | Command::Seq { .. } => Some(4_194_304),
         Command::Replay | Command::Graph => Some(134_217_728),
         Command::Gen { .. } => None,
@@ -77,6 +79,7 @@ pub(crate) fn output_of<R: Threads + Sync>(
         Command::Litmus { seed, seeds, steps } => {
             sampling::output(alloc, rt, *seed, *seeds, *steps, input)
         }
+        Command::Outcomes { steps, states } => exploring::output(alloc, *steps, *states, input),
         Command::Gen {
             number,
             functions,

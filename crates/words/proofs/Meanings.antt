@@ -26,7 +26,7 @@ use Rattle.words.specs.Options.{Options, AllowsSettings, is_option, value_of}
 use Rattle.words.specs.Program.{clap_program, row_of}
 use Rattle.words.specs.Spelling.{Setting, WordText}
 use Rattle.words.specs.declared.command.Command.{Command}
-use Rattle.words.specs.declared.command.Command.TheVariants.{Check, Gen, Graph, Litmus, Opt, Replay, Run, Seq, Tidy, Validate, Walk}
+use Rattle.words.specs.declared.command.Command.TheVariants.{Check, Gen, Graph, Litmus, Opt, Outcomes, Replay, Run, Seq, Tidy, Validate, Walk}
 use Rattle.words.specs.declared.command.Drawing.{Drawing}
 use Rattle.words.specs.declared.command.Drawing.TheVariants.{Seed, Picks}
 use Rattle.words.specs.declared.command.Form.{Form}
@@ -171,6 +171,7 @@ listed (Run seed steps) = record { found = refl; named = refl; no_dash = refl }
 listed Replay = record { found = refl; named = refl; no_dash = refl }
 listed Graph = record { found = refl; named = refl; no_dash = refl }
 listed (Litmus seed seeds steps) = record { found = refl; named = refl; no_dash = refl }
+listed (Outcomes steps states) = record { found = refl; named = refl; no_dash = refl }
 listed (Gen number functions form) = record { found = refl; named = refl; no_dash = refl }
 
 -- a name of a list of options is that of the first, or of the rest
@@ -267,6 +268,15 @@ plain_settings (Litmus seed seeds steps) os s name value option is = first (opti
     first : (codes "seed" ≡ name) ⊎ (is_option ((codes "seeds", false) ∷ ((codes "steps", false) ∷ [])) name ≡ true) → IsPlain value
     first (inl same) = plain_number 0 9223372036854775807 0 seed (value_of (codes "seed") os) value (omega arith) s.0 (ap (λ n. value_of n os) same ∙ is)
     first (inr rest) = second (option_cases (codes "seeds", false) ((codes "steps", false) ∷ []) name rest)
+plain_settings (Outcomes steps states) os s name value option is = first (option_cases (codes "steps", false) ((codes "states", false) ∷ []) name option)
+  where
+    second : (codes "states" ≡ name) ⊎ (is_option [] name ≡ true) → IsPlain value
+    second (inl same) = plain_number 1 1048576 65536 states (value_of (codes "states") os) value (omega arith) s.1 (ap (λ n. value_of n os) same ∙ is)
+    second (inr none) = absurd cc
+
+    first : (codes "steps" ≡ name) ⊎ (is_option ((codes "states", false) ∷ []) name ≡ true) → IsPlain value
+    first (inl same) = plain_number 1 100 100 steps (value_of (codes "steps") os) value (omega arith) s.0 (ap (λ n. value_of n os) same ∙ is)
+    first (inr rest) = second (option_cases (codes "states", false) [] name rest)
 plain_settings (Gen number functions form) os s name value option is = first (option_cases (codes "number", true) ((codes "functions", false) ∷ ((codes "form", false) ∷ [])) name option)
   where
     third : (codes "form" ≡ name) ⊎ (is_option [] name ≡ true) → IsPlain value
@@ -316,6 +326,10 @@ one_command os (Litmus seed seeds steps) (Litmus seed' seeds' steps') same s t =
     let firsts : seed ≡ seed' = one_number 0 9223372036854775807 0 seed seed' (value_of (codes "seed") os) (omega arith) s.0 t.0 in
     let counts : seeds ≡ seeds' = one_number 1 500 100 seeds seeds' (value_of (codes "seeds") os) (omega arith) s.1 t.1 in
     let all_steps : steps ≡ steps' = one_number 1 100 100 steps steps' (value_of (codes "steps") os) (omega arith) s.2 t.2 in
+    cc
+one_command os (Outcomes steps states) (Outcomes steps' states') same s t =
+    let all_steps : steps ≡ steps' = one_number 1 100 100 steps steps' (value_of (codes "steps") os) (omega arith) s.0 t.0 in
+    let all_states : states ≡ states' = one_number 1 1048576 65536 states states' (value_of (codes "states") os) (omega arith) s.1 t.1 in
     cc
 one_command os (Gen number functions form) (Gen number' functions' form') same s t =
     let numbers : number ≡ number' = one_number_set 0 18446744073709551615 number number' (value_of (codes "number") os) (omega arith) s.0 t.0 in

@@ -41,6 +41,9 @@ graph_words = (codes "graph", [])
 abbrev pub litmus_words : CommandWords
 litmus_words = (codes "litmus", (codes "seed", false) ∷ ((codes "seeds", false) ∷ ((codes "steps", false) ∷ [])))
 
+abbrev pub outcomes_words : CommandWords
+outcomes_words = (codes "outcomes", (codes "steps", false) ∷ ((codes "states", false) ∷ []))
+
 abbrev pub gen_words : CommandWords
 gen_words = (codes "gen", (codes "number", true) ∷ ((codes "functions", false) ∷ ((codes "form", false) ∷ [])))
 
@@ -56,5 +59,6 @@ commands =
     ∷ (replay_words
     ∷ (graph_words
     ∷ (litmus_words
+    ∷ (outcomes_words
     ∷ (gen_words
-    ∷ []))))))))))
+    ∷ [])))))))))))

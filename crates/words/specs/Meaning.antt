@@ -1,12 +1,12 @@
 -- The command that words mean.
 use Rattle.std.specs.Prelude.{◌≡◌, ℕ, true, List, [], ◌∷◌, Option, Some, None, codes}
 use Rattle.il_syntax.specs.Name.{is_word}
-use Rattle.words.specs.Commands.{CommandWords, check_words, gen_words, graph_words, litmus_words, opt_words, replay_words, run_words, seq_words, tidy_words, validate_words, walk_words}
+use Rattle.words.specs.Commands.{CommandWords, check_words, gen_words, graph_words, litmus_words, opt_words, outcomes_words, replay_words, run_words, seq_words, tidy_words, validate_words, walk_words}
 use Rattle.words.specs.Numbers.{IsNumber, AreNumbers}
 use Rattle.words.specs.Options.{AllowsSettings, Options, value_of}
 use Rattle.words.specs.Spelling.{Setting, SpellsSettings, WordText}
 use Rattle.words.specs.declared.command.Command.{Command}
-use Rattle.words.specs.declared.command.Command.TheVariants.{Check, Gen, Graph, Litmus, Opt, Replay, Run, Seq, Tidy, Validate, Walk}
+use Rattle.words.specs.declared.command.Command.TheVariants.{Check, Gen, Graph, Litmus, Opt, Outcomes, Replay, Run, Seq, Tidy, Validate, Walk}
 use Rattle.words.specs.declared.command.Drawing.{Drawing}
 use Rattle.words.specs.declared.command.Drawing.TheVariants.{Seed, Picks}
 use Rattle.words.specs.declared.command.Form.{Form}
@@ -65,6 +65,10 @@ GivesSeeds settings seeds = GivesNumber 1 500 100 (value_of (codes "seeds") sett
 abbrev pub GivesFewSteps : List Setting → ℕ → Type 0
 GivesFewSteps settings steps = GivesNumber 1 100 100 (value_of (codes "steps") settings) steps
 
+-- from 1 to 2^20, and 2^16 where it is left out
+abbrev pub GivesStates : List Setting → ℕ → Type 0
+GivesStates settings states = GivesNumber 1 1048576 65536 (value_of (codes "states") settings) states
+
 -- numbers of threads up to 15, and the empty list where it is left out
 abbrev pub GivesOrder : List Setting → List ℕ → Type 0
 GivesOrder settings order = GivesNumbers 15 (value_of (codes "order") settings) order
@@ -118,6 +122,7 @@ in_words (Run seed steps) = record { words = run_words; gives = λ settings. Giv
 in_words Replay = without_values replay_words
 in_words Graph = without_values graph_words
 in_words (Litmus seed seeds steps) = record { words = litmus_words; gives = λ settings. GivesFirstSeed settings seed × GivesSeeds settings seeds × GivesFewSteps settings steps }
+in_words (Outcomes steps states) = record { words = outcomes_words; gives = λ settings. GivesFewSteps settings steps × GivesStates settings states }
 in_words (Gen number functions form) = record { words = gen_words; gives = λ settings. GivesProgramNumber settings number × GivesFunctions settings functions × GivesForm settings form }
 
 abbrev pub name_of : Command → WordText

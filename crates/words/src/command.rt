@@ -67,6 +67,11 @@ pub enum Command {
         seeds: u64,
         steps: u64,
     },
+    /// List all outcomes of a program: how many steps each thread of a run may make, and to how many nodes the search may come.
+    Outcomes {
+        steps: u64,
+        states: u64,
+    },
     /// Make a program of so many functions from a number.
     Gen {
         number: u64,

@@ -12,7 +12,7 @@ use std::thread::Threads;
 use values_undef::NoMemory;
 
 /// The status of a verdict on all expectations.
-fn verdict_status(met: bool) -> Status
+pub(crate) fn verdict_status(met: bool) -> Status
     ensures { result ≡ verdict_status met }
 {
     if met { Status::Done } else { Status::No }
