@@ -9,7 +9,7 @@ use Rattle.values_undef.specs.declared.journal.Entry.{Entry}
 use Rattle.memory_likeness.specs.Likeness.{without_stamps}
 use Rattle.outcome_nodes.specs.Nodes.{told_by}
 use Rattle.outcome_nodes.proofs.Callers.{told_more}
-use Rattle.equal_nodes.specs.Key.{mixed, event_number, thread_key, threads_key}
+use Rattle.equal_nodes.specs.Keys.{mixed, event_number, thread_key, threads_key}
 
 -- timestamps add nothing
 pub number_same : (e : Event) → event_number (without_stamps e) ≡ event_number e

@@ -3,7 +3,7 @@ ghost use Rattle.std.specs.Prelude.{◌≡◌, ◌==◌, [], ◌∷◌, if◌the
 ghost use Rattle.std.specs.List.{range_with_len};
 ghost use Rattle.memory_likeness.specs.Likeness.{without_stamps};
 ghost use Rattle.outcome_nodes.specs.Nodes.{told_by};
-ghost use Rattle.equal_nodes.specs.Key.{mixed, value_number, event_number, thread_key, key_of};
+ghost use Rattle.equal_nodes.specs.Keys.{mixed, value_number, event_number, thread_key, key_of};
 
 use values_undef::{Entry, Event, Val};
 

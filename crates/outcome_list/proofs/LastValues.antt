@@ -27,7 +27,7 @@ use Rattle.view_machine.proofs.Callers.{states_whole}
 use Rattle.outcome_nodes.specs.Outcome.{last_value, final_values}
 use Rattle.outcome_nodes.proofs.Callers.{Spends, Makes, entry_done}
 use Rattle.outcome_list.specs.declared.values.Newest.{Newest}
-use Rattle.outcome_list.specs.Values.{last_value_after, newer, newest_after, value_at_end, newest_at_end, last_value_of, first_newest, newest_value_of}
+use Rattle.outcome_list.specs.Values.{stored_after, newer, newest_after, value_at_end, newest_at_end, last_value_of, first_newest, newest_value_of}
 
 -- ---- non-atomic locations
 
@@ -50,14 +50,14 @@ stored m x z n v w h = record { there = subst (λ (k : ℕ). x < k) (sym (length
         ap (λ (c : Versioned). c.value) (get_or-set_other m.na z x new absent_location (λ (q : x ≡ z). e (sym q))) ∙ h.is ∙ sym (cond-false (eqb z x) w v (ne_eqb z x e)))
         (cases_eq z x)
 
-step_value : (m : Memory) (t : ThreadView) (i : ℕ) (a : Access) (c : Choice) (x : ℕ) (v : Val) → AdmitsChoice m t a c → HasValue m x v → HasValue (step_result m t i a c).memory x (last_value_after x v (step_result m t i a c).event)
+step_value : (m : Memory) (t : ThreadView) (i : ℕ) (a : Access) (c : Choice) (x : ℕ) (v : Val) → AdmitsChoice m t a c → HasValue m x v → HasValue (step_result m t i a c).memory x (stored_after x v (step_result m t i a c).event)
 step_value m t i (NaRead z) Plain x v h q = q
 step_value m t i (NaWrite z n) Plain x v h q =
-    cond_both (is_racy m t z) _ _ (λ (o : StepResult). HasValue o.memory x (last_value_after x v o.event)) (λ _. record { there = q.there; is = q.is }) (λ _. stored m x z ((location_in m z).version + 1) v n q)
+    cond_both (is_racy m t z) _ _ (λ (o : StepResult). HasValue o.memory x (stored_after x v o.event)) (λ _. record { there = q.there; is = q.is }) (λ _. stored m x z ((location_in m z).version + 1) v n q)
 step_value m t i (Read z order) (Message to) x v h q = q
 step_value m t i (Write z order n) (Place from to) x v h q = record { there = q.there; is = q.is }
 step_value m t i (Update z order kind) (Message to) x v h q =
-    cond_both (meets_undef kind (read_at m z to).value) _ _ (λ (o : StepResult). HasValue o.memory x (last_value_after x v o.event)) (λ _. record { there = q.there; is = q.is }) (λ _. q)
+    cond_both (meets_undef kind (read_at m z to).value) _ _ (λ (o : StepResult). HasValue o.memory x (stored_after x v o.event)) (λ _. record { there = q.there; is = q.is }) (λ _. q)
 step_value m t i (Update z order kind) (Take read to) x v h q = record { there = q.there; is = q.is }
 step_value m t i (Fence order) Plain x v h q = q
 step_value m t i (Print n) Plain x v h q = record { there = q.there; is = q.is }
@@ -123,19 +123,19 @@ step_newest m t i _ _ y n h q = absurd h
 
 -- ---- runs
 
-entry_value : (p : Program) (s : State) (e : Entry) (x : ℕ) (v : Val) → IsRunFrom p s (e ∷ []) → HasValue s.memory x v → HasValue (after_entry p s e).memory x (last_value_after x v e.event)
+entry_value : (p : Program) (s : State) (e : Entry) (x : ℕ) (v : Val) → IsRunFrom p s (e ∷ []) → HasValue s.memory x v → HasValue (after_entry p s e).memory x (stored_after x v e.event)
 entry_value p s e x v h q =
     ⊎_elim
-    (λ (d : Spends p s e). subst (λ (t : State). HasValue t.memory x (last_value_after x v e.event)) (sym d.state) (subst (λ (f : Event). HasValue s.memory x (last_value_after x v f)) (sym d.event) q))
+    (λ (d : Spends p s e). subst (λ (t : State). HasValue t.memory x (stored_after x v e.event)) (sym d.state) (subst (λ (f : Event). HasValue s.memory x (stored_after x v f)) (sym d.event) q))
     (λ (d : Makes p s e).
-    subst (λ (t : State). HasValue t.memory x (last_value_after x v e.event)) (sym d.state)
-    (subst (λ (f : Event). HasValue (step_result s.memory (view_in s e.thread) e.thread d.access (choice_of_event e.event)).memory x (last_value_after x v f)) d.event
+    subst (λ (t : State). HasValue t.memory x (stored_after x v e.event)) (sym d.state)
+    (subst (λ (f : Event). HasValue (step_result s.memory (view_in s e.thread) e.thread d.access (choice_of_event e.event)).memory x (stored_after x v f)) d.event
     (step_value s.memory (view_in s e.thread) e.thread d.access (choice_of_event e.event) x v d.legal.admits q)))
     (entry_done p s e h.0).cases
 
 run_value : (p : Program) (s : State) (entries : List Entry) (x : ℕ) (v : Val) → IsRunFrom p s entries → HasValue s.memory x v → HasValue (state_after p s entries).memory x (value_at_end x v entries)
 run_value p s [] x v h q = q
-run_value p s (e ∷ entries) x v h q = run_value p (after_entry p s e) entries x (last_value_after x v e.event) h.1 (entry_value p s e x v (h.0, tt) q)
+run_value p s (e ∷ entries) x v h q = run_value p (after_entry p s e) entries x (stored_after x v e.event) h.1 (entry_value p s e x v (h.0, tt) q)
 
 entry_newest : (p : Program) (s : State) (e : Entry) (y : ℕ) (n : Newest) → IsRunFrom p s (e ∷ []) → HasNewest (messages s.memory y) n → HasNewest (messages (after_entry p s e).memory y) (newest_after y n e.event)
 entry_newest p s e y n h q =

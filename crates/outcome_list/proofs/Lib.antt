@@ -1,3 +1,4 @@
+pub mod Callers
 mod Orders
 mod Comparing
 mod LastValues

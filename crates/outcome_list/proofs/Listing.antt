@@ -10,10 +10,10 @@ use Rattle.view_machine.specs.Runs.{IsJournalRun}
 use Rattle.run_choices.specs.Complete.{IsComplete}
 use Rattle.outcome_nodes.specs.Outcome.{FinalOutcome, HaveAllOutcomes, IsOutcome, final_outcome_of}
 use Rattle.outcome_list.specs.declared.found.Found.{Found}
-use Rattle.outcome_list.specs.List.{outcome_seen, IsAdded, IsFirstOf, IsFound, IsNew}
+use Rattle.outcome_list.specs.List.{found_outcome, IsAdded, IsFirstOf, IsFound, IsNew}
 
 abbrev HasThose : Program → List (List Entry) → ℕ → List Found → Type 0
-HasThose p runs k list = (j : ℕ) → j < k → Contains (map outcome_seen list) (final_outcome_of p (get_or runs j []))
+HasThose p runs k list = (j : ℕ) → j < k → Contains (map found_outcome list) (final_outcome_of p (get_or runs j []))
 
 later : (p : Program) (runs : List (List Entry)) (k : ℕ) (f : Found) → IsFirstOf p runs k f → IsFirstOf p runs (k + 1) f
 later p runs k f h = record { at = h.at; there = omega (arith, h.there); journal = h.journal; outcome = h.outcome; first = h.first }
@@ -26,7 +26,7 @@ first_each p runs k before f those h (inr new) = record {
   there = omega arith;
   journal = new.journal;
   outcome = ap (final_outcome_of p) new.journal ∙ sym new.outcome;
-  first = λ j l same. new.other (subst (λ (o : FinalOutcome). Contains (map outcome_seen before) o) same (those j l));
+  first = λ j l same. new.other (subst (λ (o : FinalOutcome). Contains (map found_outcome before) o) same (those j l));
 }
 
 all_first : (p : Program) (runs : List (List Entry)) (k : ℕ) (before some : List Found) → HasThose p runs k before → AllByRecursion (IsFirstOf p runs k) before
@@ -40,17 +40,17 @@ module _ (p : Program) (runs : List (List Entry)) (k : ℕ) (before after : List
 
   pub those_more : HasThose p runs (k + 1) after
   those_more j l =
-      ⊎_elim (λ (q : j ≡ k). subst (λ (n : ℕ). Contains (map outcome_seen after) (final_outcome_of p (get_or runs n []))) (sym q) added.has)
+      ⊎_elim (λ (q : j ≡ k). subst (λ (n : ℕ). Contains (map found_outcome after) (final_outcome_of p (get_or runs n []))) (sym q) added.has)
       (λ (q : j ≡ k → ⊥). added.kept (final_outcome_of p (get_or runs j [])) (those j (omega (arith, l, q)))) (cases_eq j k)
 
 -- the list has all outcomes, and no others
 
-pub nothing_missed : (p : Program) (steps k : ℕ) (runs : List (List Entry)) (list : List Found) → HaveAllOutcomes p steps runs → length runs ≤ k → HasThose p runs k list → (o : FinalOutcome) → IsOutcome p steps o → Contains (map outcome_seen list) o
+pub nothing_missed : (p : Program) (steps k : ℕ) (runs : List (List Entry)) (list : List Found) → HaveAllOutcomes p steps runs → length runs ≤ k → HasThose p runs k list → (o : FinalOutcome) → IsOutcome p steps o → Contains (map found_outcome list) o
 nothing_missed p steps k runs list all many those o is =
     let at = all.all o is in
     let l = length-map runs (final_outcome_of p) in
     let there : at.0 < length runs = omega (arith, l, at.1) in
-    subst (λ (q : FinalOutcome). Contains (map outcome_seen list) q) (sym (get_or-map (final_outcome_of p) runs at.0 [] o there) ∙ at.2) (those at.0 (omega (arith, there, many)))
+    subst (λ (q : FinalOutcome). Contains (map found_outcome list) q) (sym (get_or-map (final_outcome_of p) runs at.0 [] o there) ∙ at.2) (those at.0 (omega (arith, there, many)))
 
 is_found : (p : Program) (steps k : ℕ) (runs : List (List Entry)) (f : Found) → HaveAllOutcomes p steps runs → k ≤ length runs → IsFirstOf p runs k f → IsFound p steps f
 is_found p steps k runs f all few h =

@@ -12,10 +12,10 @@ use Rattle.values_undef.specs.declared.value.Val.TheVariants.{Def, Undef}
 use Rattle.values_undef.specs.declared.journal.Ending.{Ending}
 use Rattle.values_undef.specs.declared.journal.Ending.TheVariants.{Done, Failed, Spent}
 use Rattle.outcome_nodes.specs.Outcome.{FinalOutcome}
-use Rattle.outcome_list.specs.Order.{place_of_ending, class_of, number_in_value, value_cmp, outcome_cmp}
+use Rattle.outcome_list.specs.Order.{place_of_ending, class_of, number_told, value_cmp, outcome_cmp}
 
 values_total : IsTotalOrder value_cmp
-values_total = then_total (on_total class_of nat_cmp_total) (on_total number_in_value int_cmp_total)
+values_total = then_total (on_total class_of nat_cmp_total) (on_total number_told int_cmp_total)
 
 pub outcomes_total : IsTotalOrder outcome_cmp
 outcomes_total =

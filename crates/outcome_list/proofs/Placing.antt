@@ -11,11 +11,11 @@ use Rattle.std.proofs.lemmas.List.{get_or-map, length-map}
 use Rattle.std.proofs.lemmas.List.Edits.{get_or-insert_at, length-insert}
 use Rattle.std.proofs.lemmas.List.Sorted.{searchable_from_sorted}
 use Rattle.outcome_nodes.specs.Outcome.{FinalOutcome, final_outcome_of}
-use Rattle.outcome_list.specs.Order.{outcome_cmp, IsRisingList}
+use Rattle.outcome_list.specs.Order.{outcome_cmp, AreOutcomesRising}
 use Rattle.il_syntax.specs.declared.program.Program.{Program}
 use Rattle.values_undef.specs.declared.journal.Entry.{Entry}
 use Rattle.outcome_list.specs.declared.found.Found.{Found}
-use Rattle.outcome_list.specs.List.{outcome_seen, IsPlaceFor, IsAdded, IsNew}
+use Rattle.outcome_list.specs.List.{found_outcome, IsPlaceFor, IsAdded, IsNew}
 use Rattle.outcome_list.proofs.Orders.{outcomes_total, outcomes_equal}
 
 turned : (o q : FinalOutcome) → outcome_cmp o q ≡ Greater → outcome_cmp q o ≡ Less
@@ -28,35 +28,35 @@ no_found : FinalOutcome → Found
 no_found o = record { outcome = o; journal = [] }
 
 -- each but the last is less than the next
-adjacent : (list : List Found) (k : ℕ) (d : Found) → IsRisingList (map outcome_seen list) → suc k < length list → outcome_cmp (outcome_seen (get_or list k d)) (outcome_seen (get_or list (suc k) d)) ≡ Less
+adjacent : (list : List Found) (k : ℕ) (d : Found) → AreOutcomesRising (map found_outcome list) → suc k < length list → outcome_cmp (found_outcome (get_or list k d)) (found_outcome (get_or list (suc k) d)) ≡ Less
 adjacent [] k d h l = absurd (omega (arith, l))
 adjacent (f ∷ []) k d h l = absurd (omega (arith, l))
 adjacent (f ∷ g ∷ list) zero d h l = h.0.0
 adjacent (f ∷ g ∷ list) (suc k) d h l = adjacent (g ∷ list) k d h.1 (omega (arith, l))
 
-sorted : (list : List Found) → IsRisingList (map outcome_seen list) → IsSortedBy (λ f g. is_lt (outcome_cmp (outcome_seen f) (outcome_seen g))) list
+sorted : (list : List Found) → AreOutcomesRising (map found_outcome list) → IsSortedBy (λ f g. is_lt (outcome_cmp (found_outcome f) (found_outcome g))) list
 sorted list h k d from l =
     let one : suc k ≡ k + 1 = omega arith in
-    let less : outcome_cmp (outcome_seen (get_or list k d)) (outcome_seen (get_or list (k + 1) d)) ≡ Less =
-    subst (λ (j : ℕ). outcome_cmp (outcome_seen (get_or list k d)) (outcome_seen (get_or list j d)) ≡ Less) one (adjacent list k d h (omega (arith, l))) in
-    ap is_lt (outcomes_total.antisymm (outcome_seen (get_or list (k + 1) d)) (outcome_seen (get_or list k d))) ∙ not_less (outcome_cmp (outcome_seen (get_or list k d)) (outcome_seen (get_or list (k + 1) d))) less
+    let less : outcome_cmp (found_outcome (get_or list k d)) (found_outcome (get_or list (k + 1) d)) ≡ Less =
+    subst (λ (j : ℕ). outcome_cmp (found_outcome (get_or list k d)) (found_outcome (get_or list j d)) ≡ Less) one (adjacent list k d h (omega (arith, l))) in
+    ap is_lt (outcomes_total.antisymm (found_outcome (get_or list (k + 1) d)) (found_outcome (get_or list k d))) ∙ not_less (outcome_cmp (found_outcome (get_or list k d)) (found_outcome (get_or list (k + 1) d))) less
 
 -- what the search of a place tells
-pub place_told : (list : List Found) (o : FinalOutcome) (r : Result ℕ ℕ) → IsRisingList (map outcome_seen list) → IsSearchInRange r (length list) → IsBinarySearchResult (λ f. outcome_cmp (outcome_seen f) o) list r
-    → IfOk r (λ k. Contains (map outcome_seen list) o) × IfErr r (IsPlaceFor (map outcome_seen list) o)
+pub place_told : (list : List Found) (o : FinalOutcome) (r : Result ℕ ℕ) → AreOutcomesRising (map found_outcome list) → IsSearchInRange r (length list) → IsBinarySearchResult (λ f. outcome_cmp (found_outcome f) o) list r
+    → IfOk r (λ k. Contains (map found_outcome list) o) × IfErr r (IsPlaceFor (map found_outcome list) o)
 place_told list o (Ok k) h bound found = (
-  (k, omega (arith, bound, length-map list outcome_seen), get_or-map outcome_seen list k (no_found o) o bound ∙ outcomes_equal (outcome_seen (get_or list k (no_found o))) o (found (no_found o))),
+  (k, omega (arith, bound, length-map list found_outcome), get_or-map found_outcome list k (no_found o) o bound ∙ outcomes_equal (found_outcome (get_or list k (no_found o))) o (found (no_found o))),
   tt,
 )
 place_told list o (Err k) h bound found =
-    let at = found (searchable_from_sorted outcomes_total outcome_seen list o (sorted list h)) in (
+    let at = found (searchable_from_sorted outcomes_total found_outcome list o (sorted list h)) in (
       tt,
       record {
-        within = omega (arith, bound, length-map list outcome_seen);
-        before = λ j l. ap (λ (q : FinalOutcome). outcome_cmp q o) (get_or-map outcome_seen list j (no_found o) o (omega (arith, bound, l))) ∙ at.0 j (no_found o) (omega arith) l;
+        within = omega (arith, bound, length-map list found_outcome);
+        before = λ j l. ap (λ (q : FinalOutcome). outcome_cmp q o) (get_or-map found_outcome list j (no_found o) o (omega (arith, bound, l))) ∙ at.0 j (no_found o) (omega arith) l;
         after = λ j from l.
-            let m : j < length list = omega (arith, l, length-map list outcome_seen) in
-            ap (λ (q : FinalOutcome). outcome_cmp q o) (get_or-map outcome_seen list j (no_found o) o m) ∙ at.1 j (no_found o) from m;
+            let m : j < length list = omega (arith, l, length-map list found_outcome) in
+            ap (λ (q : FinalOutcome). outcome_cmp q o) (get_or-map found_outcome list j (no_found o) o m) ∙ at.1 j (no_found o) from m;
       },
     )
 
@@ -71,7 +71,7 @@ all_after : (os : List FinalOutcome) (o : FinalOutcome) → ((j : ℕ) → j < l
 all_after [] o h = tt
 all_after (q ∷ os) o h = (turned q o (h 0 (omega arith)), all_after os o (λ j l. h (suc j) (omega (arith, l))))
 
-pub put_rising : (os : List FinalOutcome) (o : FinalOutcome) (k : ℕ) → IsRisingList os → IsPlaceFor os o k → IsRisingList (insert os k o)
+pub put_rising : (os : List FinalOutcome) (o : FinalOutcome) (k : ℕ) → AreOutcomesRising os → IsPlaceFor os o k → AreOutcomesRising (insert os k o)
 put_rising os o zero h at = (all_after os o (λ j l. at.after j (omega arith) l), h)
 put_rising [] o (suc k) h at = absurd (omega (arith, at.within))
 put_rising (q ∷ os) o (suc k) h at = (
@@ -125,18 +125,18 @@ all_old : (p : Program) (run : List Entry) (list some : List Found) → AllByRec
 all_old p run list [] h = tt
 all_old p run list (f ∷ some) h = (inl h.0, all_old p run list some h.1)
 
-pub run_there : (p : Program) (run : List Entry) (list : List Found) (o : FinalOutcome) → IsRisingList (map outcome_seen list) → o ≡ final_outcome_of p run → Contains (map outcome_seen list) o → IsAdded p run list list
-run_there p run list o rising same there = record { rising = rising; has = subst (λ (q : FinalOutcome). Contains (map outcome_seen list) q) same there; kept = λ q c. c; each = all_old p run list list (all_contained list) }
+pub run_there : (p : Program) (run : List Entry) (list : List Found) (o : FinalOutcome) → AreOutcomesRising (map found_outcome list) → o ≡ final_outcome_of p run → Contains (map found_outcome list) o → IsAdded p run list list
+run_there p run list o rising same there = record { rising = rising; has = subst (λ (q : FinalOutcome). Contains (map found_outcome list) q) same there; kept = λ q c. c; each = all_old p run list list (all_contained list) }
 
-pub run_put : (p : Program) (run : List Entry) (list new : List Found) (k : ℕ) (f : Found) → IsRisingList (map outcome_seen list) → outcome_seen f ≡ final_outcome_of p run → f.journal ≡ run → IsPlaceFor (map outcome_seen list) (outcome_seen f) k → new ≡ insert list k f
+pub run_put : (p : Program) (run : List Entry) (list new : List Found) (k : ℕ) (f : Found) → AreOutcomesRising (map found_outcome list) → found_outcome f ≡ final_outcome_of p run → f.journal ≡ run → IsPlaceFor (map found_outcome list) (found_outcome f) k → new ≡ insert list k f
     → IsAdded p run list new
 run_put p run list new k f rising same journal at more = record {
-  rising = subst IsRisingList (sym here) (put_rising (map outcome_seen list) (outcome_seen f) k rising at);
-  has = subst (λ (os : List FinalOutcome). Contains os (final_outcome_of p run)) (sym here) (subst (λ (o : FinalOutcome). Contains (insert (map outcome_seen list) k (outcome_seen f)) o) same (insert_has (map outcome_seen list) k (outcome_seen f) at.within));
-  kept = λ o c. subst (λ (os : List FinalOutcome). Contains os o) (sym here) (insert_keeps (map outcome_seen list) k (outcome_seen f) o at.within c);
+  rising = subst AreOutcomesRising (sym here) (put_rising (map found_outcome list) (found_outcome f) k rising at);
+  has = subst (λ (os : List FinalOutcome). Contains os (final_outcome_of p run)) (sym here) (subst (λ (o : FinalOutcome). Contains (insert (map found_outcome list) k (found_outcome f)) o) same (insert_has (map found_outcome list) k (found_outcome f) at.within));
+  kept = λ o c. subst (λ (os : List FinalOutcome). Contains os o) (sym here) (insert_keeps (map found_outcome list) k (found_outcome f) o at.within c);
   each = subst (AllByRecursion (λ g. Contains list g ⊎ IsNew p run list g)) (sym more)
-      (all_insert (λ g. Contains list g ⊎ IsNew p run list g) list k f (inr (record { journal = journal; outcome = same; other = not_there (map outcome_seen list) (outcome_seen f) k at })) (all_old p run list list (all_contained list)));
+      (all_insert (λ g. Contains list g ⊎ IsNew p run list g) list k f (inr (record { journal = journal; outcome = same; other = not_there (map found_outcome list) (found_outcome f) k at })) (all_old p run list list (all_contained list)));
 }
   where
-    here : map outcome_seen new ≡ insert (map outcome_seen list) k (outcome_seen f)
-    here = ap (map outcome_seen) more ∙ map_insert outcome_seen list k f
+    here : map found_outcome new ≡ insert (map found_outcome list) k (found_outcome f)
+    here = ap (map found_outcome) more ∙ map_insert found_outcome list k f

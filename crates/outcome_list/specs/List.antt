@@ -11,15 +11,15 @@ use Rattle.il_syntax.specs.declared.program.Program.{Program}
 use Rattle.view_machine.specs.Runs.{IsJournalRun}
 use Rattle.run_choices.specs.Complete.{IsComplete}
 use Rattle.outcome_nodes.specs.Outcome.{FinalOutcome, final_outcome_of}
-use Rattle.outcome_list.specs.Order.{outcome_cmp, IsRisingList}
+use Rattle.outcome_list.specs.Order.{outcome_cmp, AreOutcomesRising}
 use Rattle.outcome_list.specs.declared.found.Found.{Found}
 
-abbrev pub outcome_seen : Found → FinalOutcome
-outcome_seen f = f.outcome
+abbrev pub found_outcome : Found → FinalOutcome
+found_outcome f = f.outcome
 
 -- its journal is a run that is complete for the budget, and has the outcome
 abbrev pub IsFound : Program → ℕ → Found → Type 0
-IsFound p steps f = IsJournalRun p f.journal × IsComplete p f.journal steps × (final_outcome_of p f.journal ≡ outcome_seen f)
+IsFound p steps f = IsJournalRun p f.journal × IsComplete p f.journal steps × (final_outcome_of p f.journal ≡ found_outcome f)
 
 -- the outcome would stand at place k: those before it there are less, the others greater
 pub record IsPlaceFor (os : List FinalOutcome) (o : FinalOutcome) (k : ℕ) : Type 0 where
@@ -32,34 +32,34 @@ pub record IsFirstOf (p : Program) (runs : List (List Entry)) (k : ℕ) (f : Fou
   pub at : ℕ
   pub there : at < k
   pub journal : f.journal ≡ slice_index_or runs at []
-  pub outcome : final_outcome_of p f.journal ≡ outcome_seen f
-  pub first : (j : ℕ) → j < at → final_outcome_of p (slice_index_or runs j []) ≡ outcome_seen f → ⊥
+  pub outcome : final_outcome_of p f.journal ≡ found_outcome f
+  pub first : (j : ℕ) → j < at → final_outcome_of p (slice_index_or runs j []) ≡ found_outcome f → ⊥
 
 -- it has the journal of the run, and an outcome that the list hasn't
 pub record IsNew (p : Program) (run : List Entry) (list : List Found) (f : Found) : Type 0 where
   pub journal : f.journal ≡ run
-  pub outcome : outcome_seen f ≡ final_outcome_of p run
-  pub other : Contains (map outcome_seen list) (outcome_seen f) → ⊥
+  pub outcome : found_outcome f ≡ final_outcome_of p run
+  pub other : Contains (map found_outcome list) (found_outcome f) → ⊥
 
 -- the list has got the outcome of a run, has kept what it had, and has got nothing else
 pub record IsAdded (p : Program) (run : List Entry) (before after : List Found) : Type 0 where
-  pub rising : IsRisingList (map outcome_seen after)
-  pub has : Contains (map outcome_seen after) (final_outcome_of p run)
-  pub kept : (o : FinalOutcome) → Contains (map outcome_seen before) o → Contains (map outcome_seen after) o
+  pub rising : AreOutcomesRising (map found_outcome after)
+  pub has : Contains (map found_outcome after) (final_outcome_of p run)
+  pub kept : (o : FinalOutcome) → Contains (map found_outcome before) o → Contains (map found_outcome after) o
   pub each : AllByRecursion (λ f. Contains before f ⊎ IsNew p run before f) after
 
 -- ---- refinement
 
-abbrev pub ends_failed : Ending → Bool
-ends_failed Done = false
-ends_failed Failed = true
-ends_failed Spent = false
+abbrev pub is_failed_ending : Ending → Bool
+is_failed_ending Done = false
+is_failed_ending Failed = true
+is_failed_ending Spent = false
 
 -- The outcome q of the source covers the outcome o of the target: it is the same, or it has failed, and what each thread
 -- has printed in it is a beginning of what that thread has printed in o.
 abbrev pub covers : FinalOutcome → FinalOutcome → Bool
-covers q o = is_eq (outcome_cmp q o) || (ends_failed q.ending && pointwise (λ begun whole. starts_with int_eq whole begun) q.printed o.printed)
+covers q o = is_eq (outcome_cmp q o) || (is_failed_ending q.ending && pointwise (λ begun whole. starts_with int_eq whole begun) q.printed o.printed)
 
 -- no outcome of the source covers that of the target
 abbrev pub is_missed : List Found → Found → Bool
-is_missed source f = not (list_any (λ g. covers (outcome_seen g) (outcome_seen f)) source)
+is_missed source f = not (list_any (λ g. covers (found_outcome g) (found_outcome f)) source)

@@ -22,12 +22,12 @@ abbrev pub class_of : Val → ℕ
 class_of (Def n) = 0
 class_of Undef = 1
 
-abbrev pub number_in_value : Val → ℤ
-number_in_value (Def n) = n
-number_in_value Undef = pos 0
+abbrev pub number_told : Val → ℤ
+number_told (Def n) = n
+number_told Undef = pos 0
 
 abbrev pub value_cmp : Val → Val → Ordering
-value_cmp v w = ordering_then (nat_cmp (class_of v) (class_of w)) (int_cmp (number_in_value v) (number_in_value w))
+value_cmp v w = ordering_then (nat_cmp (class_of v) (class_of w)) (int_cmp (number_told v) (number_told w))
 
 -- lists are in the order of words in a dictionary
 abbrev pub outcome_cmp : FinalOutcome → FinalOutcome → Ordering
@@ -36,6 +36,6 @@ outcome_cmp o q =
     (ordering_then (slice_cmp (slice_cmp int_cmp) o.printed q.printed) (slice_cmp value_cmp o.values q.values))
 
 -- each comes before those behind it, so none stands there twice
-abbrev pub IsRisingList : List FinalOutcome → Type 0
-IsRisingList [] = Unit {0}
-IsRisingList (o ∷ os) = AllByRecursion (λ q. outcome_cmp o q ≡ Less) os × IsRisingList os
+abbrev pub AreOutcomesRising : List FinalOutcome → Type 0
+AreOutcomesRising [] = Unit {0}
+AreOutcomesRising (o ∷ os) = AllByRecursion (λ q. outcome_cmp o q ≡ Less) os × AreOutcomesRising os

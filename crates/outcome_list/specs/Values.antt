@@ -8,19 +8,19 @@ use Rattle.values_undef.specs.declared.journal.Entry.{Entry}
 use Rattle.outcome_list.specs.declared.values.Newest.{Newest}
 
 -- the value of non-atomic location x after an event
-abbrev pub last_value_after : ℕ → Val → Event → Val
-last_value_after x v (NaRead z n) = v
-last_value_after x v (NaWrite z n version) = if z == x then n else v
-last_value_after x v (Read y order n to) = v
-last_value_after x v (Write y order n from to) = v
-last_value_after x v (Update y order old new read to) = v
-last_value_after x v (Miss y order old read) = v
-last_value_after x v (Fence order) = v
-last_value_after x v (Print n) = v
-last_value_after x v (Fail cause) = v
-last_value_after x v (FailCompare y read) = v
-last_value_after x v Finish = v
-last_value_after x v Spend = v
+abbrev pub stored_after : ℕ → Val → Event → Val
+stored_after x v (NaRead z n) = v
+stored_after x v (NaWrite z n version) = if z == x then n else v
+stored_after x v (Read y order n to) = v
+stored_after x v (Write y order n from to) = v
+stored_after x v (Update y order old new read to) = v
+stored_after x v (Miss y order old read) = v
+stored_after x v (Fence order) = v
+stored_after x v (Print n) = v
+stored_after x v (Fail cause) = v
+stored_after x v (FailCompare y read) = v
+stored_after x v Finish = v
+stored_after x v Spend = v
 
 -- the newest message is the one that ends last
 abbrev pub newer : Newest → Newest → Newest
@@ -44,7 +44,7 @@ newest_after y m Spend = m
 -- they after all entries
 abbrev pub value_at_end : ℕ → Val → List Entry → Val
 value_at_end x v [] = v
-value_at_end x v (e ∷ entries) = value_at_end x (last_value_after x v e.event) entries
+value_at_end x v (e ∷ entries) = value_at_end x (stored_after x v e.event) entries
 
 abbrev pub newest_at_end : ℕ → Newest → List Entry → Newest
 newest_at_end y m [] = m

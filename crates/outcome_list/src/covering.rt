@@ -3,15 +3,15 @@ ghost use Rattle.std.specs.Prelude.{◌≡◌};
 ghost use Rattle.std.specs.List.{position, list_any, starts_with};
 ghost use Rattle.std.specs.Ordering.{int_eq};
 ghost use Rattle.std.specs.Cmp.Lexicographic.{pointwise};
-ghost use Rattle.outcome_list.specs.List.{covers, ends_failed, is_missed, outcome_seen};
+ghost use Rattle.outcome_list.specs.List.{covers, is_failed_ending, is_missed, found_outcome};
 
 use crate::found::{Found, Outcome};
 use crate::order::compare;
 use values_undef::Ending;
 
 /// Whether the ending is a failure.
-fn ends_failed(ending: Ending) -> bool
-    ensures { result ≡ ends_failed ending }
+fn is_failed_ending(ending: Ending) -> bool
+    ensures { result ≡ is_failed_ending ending }
 {
     matches!(ending, Ending::Failed)
 }
@@ -36,12 +36,12 @@ fn covers(q: &Outcome, o: &Outcome) -> bool
     ensures { result ≡ covers q.now o.now }
 {
     compare(q, o).is_eq()
-        || (ends_failed(q.ending) && are_begun(q.printed.as_slice(), o.printed.as_slice()))
+        || (is_failed_ending(q.ending) && are_begun(q.printed.as_slice(), o.printed.as_slice()))
 }
 
 /// Whether an outcome of the source covers that of the target.
 fn is_covered(source: &[Found], found: &Found) -> bool
-    ensures { result ≡ list_any (λ g. covers (outcome_seen g) (outcome_seen found.now)) source.now }
+    ensures { result ≡ list_any (λ g. covers (found_outcome g) (found_outcome found.now)) source.now }
 {
     source.iter().any(|g| covers(&g.outcome, &found.outcome))
 }

@@ -4,8 +4,8 @@ ghost use Rattle.std.specs.List.{AllByRecursion, Contains};
 ghost use Rattle.thread_core.specs.Programs.{IsProperProgram};
 ghost use Rattle.view_machine.specs.Runs.{IsJournalRun};
 ghost use Rattle.outcome_nodes.specs.Outcome.{FinalOutcome, HaveAllOutcomes, IsOutcome, final_outcome_of};
-ghost use Rattle.outcome_list.specs.Order.{IsRisingList, outcome_cmp};
-ghost use Rattle.outcome_list.specs.List.{IsAdded, IsFirstOf, IsFound, IsPlaceFor, outcome_seen};
+ghost use Rattle.outcome_list.specs.Order.{AreOutcomesRising, outcome_cmp};
+ghost use Rattle.outcome_list.specs.List.{IsAdded, IsFirstOf, IsFound, IsPlaceFor, found_outcome};
 
 use crate::found::{Found, Outcome};
 use crate::order::compare;
@@ -17,13 +17,13 @@ use values_undef::{Entry, Journal, NoMemory};
 
 /// Where the outcome stands in the list, or where it would.
 fn place_of(list: &[Found], outcome: &Outcome) -> Result<usize, usize>
-    requires { IsRisingList (map outcome_seen list.now) }
-    ensures found { IfOk result (λ k. Contains (map outcome_seen list.now) outcome.now) }
-    ensures place { IfErr result (IsPlaceFor (map outcome_seen list.now) outcome.now) }
+    requires { AreOutcomesRising (map found_outcome list.now) }
+    ensures found { IfOk result (λ k. Contains (map found_outcome list.now) outcome.now) }
+    ensures place { IfErr result (IsPlaceFor (map found_outcome list.now) outcome.now) }
 {
     list.binary_search_by(
         |found: &Found| -> Ordering
-            ensures { result ≡ outcome_cmp (outcome_seen found.now) outcome.entry.now }
+            ensures { result ≡ outcome_cmp (found_outcome found.now) outcome.entry.now }
         { compare(&found.outcome, outcome) },
     )
 }
@@ -40,7 +40,7 @@ fn copied(alloc: Global, run: &Journal) -> Result<Journal, AllocError>
 fn add_run(alloc: Global, p: &Program, run: &Journal, list: &mut Vec<Found>) -> Result<(), NoMemory>
     requires proper { IsProperProgram p.now }
     requires run { IsJournalRun p.now run.now }
-    requires rising { IsRisingList (map outcome_seen list.old.items) }
+    requires rising { AreOutcomesRising (map found_outcome list.old.items) }
     ensures { OnOk result (IsAdded p.now run.now list.old.items list.new.items) }
 {
     let outcome = outcome_of(alloc, p, run)?;
@@ -60,9 +60,9 @@ pub fn listed(
 ) -> Result<Vec<Found>, NoMemory>
     requires proper { IsProperProgram p.now }
     requires all { HaveAllOutcomes p.now _steps runs.items }
-    ensures nothing_missed { IfOk result (λ list. (o : FinalOutcome) → IsOutcome p.now _steps o → Contains (map outcome_seen list.items) o) }
+    ensures nothing_missed { IfOk result (λ list. (o : FinalOutcome) → IsOutcome p.now _steps o → Contains (map found_outcome list.items) o) }
     ensures nothing_invented { IfOk result (λ list. AllByRecursion (IsFound p.now _steps) list.items) }
-    ensures each_once { IfOk result (λ list. IsRisingList (map outcome_seen list.items)) }
+    ensures each_once { IfOk result (λ list. AreOutcomesRising (map found_outcome list.items)) }
     ensures first { IfOk result (λ list. AllByRecursion (IsFirstOf p.now runs.items (length runs.items)) list.items) }
 {
     let mut list = Vec::new(alloc);

@@ -2,7 +2,7 @@
 ghost use Rattle.std.specs.Prelude.{◌≡◌};
 ghost use Rattle.std.specs.Ordering.{int_cmp};
 ghost use Rattle.std.specs.Cmp.Lexicographic.{slice_cmp};
-ghost use Rattle.outcome_list.specs.Order.{class_of, number_in_value, outcome_cmp, place_of_ending, value_cmp};
+ghost use Rattle.outcome_list.specs.Order.{class_of, number_told, outcome_cmp, place_of_ending, value_cmp};
 
 use crate::found::Outcome;
 use std::cmp::Ordering;
@@ -30,8 +30,8 @@ fn class_of(v: Val) -> u64
 }
 
 /// The number that the value is, or 0.
-fn number_in_value(v: Val) -> i64
-    ensures { result ≡ number_in_value v }
+fn number_told(v: Val) -> i64
+    ensures { result ≡ number_told v }
 {
     match v {
         Val::Def(n) => n,
@@ -45,7 +45,7 @@ fn compare_value(v: Val, w: Val) -> Ordering
 {
     class_of(v)
         .cmp(&class_of(w))
-        .then(number_in_value(v).cmp(&number_in_value(w)))
+        .then(number_told(v).cmp(&number_told(w)))
 }
 
 /// The order of lists of values.

@@ -5,7 +5,7 @@ ghost use Rattle.thread_core.specs.Programs.{IsProperProgram};
 ghost use Rattle.view_machine.specs.State.{initial_state};
 ghost use Rattle.view_machine.specs.Runs.{IsJournalRun, state_after};
 ghost use Rattle.outcome_nodes.specs.Outcome.{final_values};
-ghost use Rattle.outcome_list.specs.Values.{first_newest, last_value_of, newer, newest_after, newest_at_end, newest_value_of, last_value_after, value_at_end};
+ghost use Rattle.outcome_list.specs.Values.{first_newest, last_value_of, newer, newest_after, newest_at_end, newest_value_of, stored_after, value_at_end};
 
 use il_syntax::Program;
 use std::alloc::Global;
@@ -20,8 +20,8 @@ struct Newest {
 }
 
 /// The value of a non-atomic location after an event.
-fn last_value_after(x: u32, v: Val, event: &Event) -> Val
-    ensures { result ≡ last_value_after x v event.now }
+fn stored_after(x: u32, v: Val, event: &Event) -> Val
+    ensures { result ≡ stored_after x v event.now }
 {
     match *event {
         Event::NaWrite { x: z, v: n, .. } if z == x => n,
@@ -58,7 +58,7 @@ fn value_at_end(x: u32, declared: i64, entries: &[Entry]) -> Val
 {
     let mut v = Val::Def(declared);
     for entry in entries {
-        v = last_value_after(x, v, &entry.event);
+        v = stored_after(x, v, &entry.event);
     }
     v
 }

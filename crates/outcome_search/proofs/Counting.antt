@@ -37,12 +37,11 @@ module _ (ys : List Node) where
   apart : (x : Node) (c : Contains ys x) (xs : List Node) (s : Has xs) → (Contains xs x → ⊥) → AllByRecursion (λ j. eqb c.0 j ≡ false) (places xs s)
   apart x c [] s h = tt
   apart x c (z ∷ xs) s h =
-      let d = first z xs s in
-      (
+      let d = first z xs s in (
         ⊎_elim
-        (λ (e : c.0 ≡ d.0). absurd (h (0, omega arith, sym d.2 ∙ ap (λ (k : ℕ). get_or ys k z) (sym e) ∙ get_any ys c.0 z x c.1 ∙ c.2)))
-        (λ (e : c.0 ≡ d.0 → ⊥). eqb_apart c.0 d.0 e)
-        (cases_eq c.0 d.0),
+            (λ (e : c.0 ≡ d.0). absurd (h (0, omega arith, sym d.2 ∙ ap (λ (k : ℕ). get_or ys k z) (sym e) ∙ get_any ys c.0 z x c.1 ∙ c.2)))
+            (λ (e : c.0 ≡ d.0 → ⊥). eqb_apart c.0 d.0 e)
+            (cases_eq c.0 d.0),
         apart x c xs (rest z xs s) (λ q. h (contains_behind z x xs q)),
       )
 

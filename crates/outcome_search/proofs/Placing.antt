@@ -10,7 +10,7 @@ use Rattle.values_undef.proofs.Callers.{all_append}
 use Rattle.il_syntax.specs.declared.program.Program.{Program}
 use Rattle.outcome_nodes.specs.Nodes.{Node}
 use Rattle.outcome_nodes.specs.Standing.{node_of}
-use Rattle.equal_nodes.specs.Key.{key_of}
+use Rattle.equal_nodes.specs.Keys.{key_of}
 use Rattle.outcome_search.specs.Runs.{nodes_of}
 use Rattle.outcome_search.specs.Places.{ArePlaces, HasNodeAt}
 use Rattle.outcome_search.proofs.Lists.{get_any, none_in, all_contained, all_weaker}
@@ -75,6 +75,6 @@ module _ (p : Program) (steps : ℕ) (runs : List (List Entry)) where
           let many : length (runs ++ entries ∷ []) ≡ length runs + 1 = length-append runs (entries ∷ []) in
           let few : AllByRecursion (λ i. i < length (runs ++ entries ∷ [])) (places k) = all_weaker (λ (i : ℕ). i < length runs) (λ (i : ℕ). i < length (runs ++ entries ∷ [])) (places k) (λ i l. omega (arith, l, many)) (h.within k) in
           let last : AllByRecursion (λ i. i < length (runs ++ entries ∷ [])) (cond (eqb k key) (length runs ∷ []) []) =
-              cond_both (eqb k key) (length runs ∷ []) [] (λ (q : List ℕ). AllByRecursion (λ i. i < length (runs ++ entries ∷ [])) q) (λ _. (omega (arith, many), tt)) (λ _. tt) in
+          cond_both (eqb k key) (length runs ∷ []) [] (λ (q : List ℕ). AllByRecursion (λ i. i < length (runs ++ entries ∷ [])) q) (λ _. (omega (arith, many), tt)) (λ _. tt) in
           subst (AllByRecursion (λ i. i < length (runs ++ entries ∷ []))) (sym (more k)) (all_append (λ (i : ℕ). i < length (runs ++ entries ∷ [])) (places k) (cond (eqb k key) (length runs ∷ []) []) few last);
     }

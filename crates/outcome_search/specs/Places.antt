@@ -8,7 +8,7 @@ use Rattle.values_undef.specs.declared.journal.Entry.{Entry}
 use Rattle.il_syntax.specs.declared.program.Program.{Program}
 use Rattle.outcome_nodes.specs.Nodes.{Node}
 use Rattle.outcome_nodes.specs.Standing.{node_of}
-use Rattle.equal_nodes.specs.Key.{key_of}
+use Rattle.equal_nodes.specs.Keys.{key_of}
 use Rattle.outcome_search.specs.Runs.{nodes_of, AreKeptRuns}
 use Rattle.outcome_search.specs.declared.table.Table.{Table}
 

@@ -3,7 +3,7 @@ ghost use Rattle.std.specs.Prelude.{◌≡◌, ◌↔◌, ℕ, ◌+◌, ◌^◌,
 ghost use Rattle.std.specs.List.{Contains, AllByRecursion};
 ghost use Rattle.thread_core.specs.Programs.{IsProperProgram};
 ghost use Rattle.outcome_nodes.specs.Standing.{node_of, IsNodeRun};
-ghost use Rattle.equal_nodes.specs.Key.{key_of};
+ghost use Rattle.equal_nodes.specs.Keys.{key_of};
 ghost use Rattle.outcome_search.specs.Runs.{nodes_of, Extends, IsShortRun, AreShortRuns, HasMoreNodes};
 ghost use Rattle.outcome_search.specs.Places.{places_at, HasNodeAt, IsNodeTable};
 
@@ -97,7 +97,7 @@ pub(crate) fn add(
     ensures added { OnOk result (Contains (nodes_of p.now _steps kept.new.runs.items) (node_of p.now _steps run)) }
     ensures many { IfErr result (λ stop. stop ≡ Stop.TooMany → HasMoreNodes p.now _steps limit) }
 {
-    let key = key_of(alloc, p.threads.len() as u32, &run.entries)?;
+    let key = key_of(p.threads.len() as u32, &run.entries);
     if has(alloc, p, _steps, limit, kept, key, &run.entries)? {
         return Ok(());
     }

@@ -8,7 +8,7 @@ use Rattle.litmus.specs.Outcome.{EndAndOutputs, outcome_in, same_outcome}
 use Rattle.litmus.proofs.Callers.{told_apart}
 use Rattle.litmus_text.specs.Expectation.{Expected}
 use Rattle.litmus_text.specs.Output.{is_met, wanted}
-use Rattle.outcome_list.specs.List.{IsFound, outcome_seen}
+use Rattle.outcome_list.specs.List.{IsFound, found_outcome}
 use Rattle.outcome_list.specs.declared.found.Found.{Found}
 use Rattle.outcome_nodes.specs.Outcome.{FinalOutcome, final_outcome_of}
 use Rattle.outcomes_session.specs.Laws.{SomeRunComesTo, VerdictsAreOfRuns}
@@ -30,7 +30,7 @@ module _ (p : Program) (steps : ℕ) (w : EndAndOutputs) where
       (cases_Bool (same_outcome w (outcome_in f.journal (length p.threads))))
 
   -- and an outcome of the list is told
-  runs_told : (list : List Found) (o : FinalOutcome) (k : ℕ) → AllByRecursion (IsFound p steps) list → k < length (map outcome_seen list) → get_or (map outcome_seen list) k o ≡ o
+  runs_told : (list : List Found) (o : FinalOutcome) (k : ℕ) → AllByRecursion (IsFound p steps) list → k < length (map found_outcome list) → get_or (map found_outcome list) k o ≡ o
       → ((f : Found) → IsFound p steps f → f.outcome ≡ o → outcome_in f.journal (length p.threads) ≡ w) → is_told list ≡ true
   runs_told [] o k h l q comes = absurd (omega (arith, l))
   runs_told (f ∷ fs) o zero h l q comes = or_left (same_outcome w (outcome_in f.journal (length p.threads))) _ ((told_apart w (outcome_in f.journal (length p.threads))).1 (sym (comes f h.0 q)))

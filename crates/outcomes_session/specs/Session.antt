@@ -11,8 +11,8 @@ use Rattle.litmus_text.specs.Reading.{ReadsLitmus, IsFirstLitmusRefusal}
 use Rattle.litmus_text.specs.declared.fault.LitmusRule.{LitmusRule}
 use Rattle.outcome_nodes.specs.Outcome.{FinalOutcome, IsOutcome}
 use Rattle.outcome_search.specs.Runs.{HasMoreNodes}
-use Rattle.outcome_list.specs.List.{IsFound, outcome_seen}
-use Rattle.outcome_list.specs.Order.{IsRisingList}
+use Rattle.outcome_list.specs.List.{IsFound, found_outcome}
+use Rattle.outcome_list.specs.Order.{AreOutcomesRising}
 use Rattle.outcome_list.specs.declared.found.Found.{Found}
 use Rattle.outcomes_session.specs.Output.{outcomes_line, found_text}
 use Rattle.outcomes_session.specs.declared.answer.OutcomesAnswer.{OutcomesAnswer}
@@ -27,9 +27,9 @@ pub record HasOutcomesCondition (steps states : ℕ) : Type 0 where
 
 -- the list has the outcome of each run that is complete for the budget, and no other, each once and in the fixed order
 pub record AreAllOutcomes (p : Program) (steps : ℕ) (list : List Found) : Type 0 where
-  pub nothing_missed : (o : FinalOutcome) → IsOutcome p steps o → Contains (map outcome_seen list) o
+  pub nothing_missed : (o : FinalOutcome) → IsOutcome p steps o → Contains (map found_outcome list) o
   pub nothing_invented : AllByRecursion (IsFound p steps) list
-  pub each_once : IsRisingList (map outcome_seen list)
+  pub each_once : AreOutcomesRising (map found_outcome list)
 
 -- what the runs of the list come to: how they end and what they print
 abbrev pub told_outcomes : Program → List Found → List EndAndOutputs

@@ -1,6 +1,6 @@
 use Rattle.std.proofs.Common.{sym, ap, ◌∙◌}
 use Rattle.outcome_nodes.specs.Nodes.{told_by}
-use Rattle.equal_nodes.specs.Key.{mixed, thread_key}
+use Rattle.equal_nodes.specs.Keys.{mixed, thread_key}
 use Rattle.equal_nodes.proofs.Keys.{threads_more}
 use Rattle.equal_nodes.proofs.key.key_of.Goals as goal
 

@@ -1,7 +1,7 @@
 use Rattle.std.proofs.Common.{◌≡◌, map}
 use Rattle.std.specs.List.{range_with_len}
 use Rattle.outcome_nodes.specs.Nodes.{told_by}
-use Rattle.equal_nodes.specs.Key.{threads_key}
+use Rattle.equal_nodes.specs.Keys.{threads_key}
 use Rattle.equal_nodes.proofs.key.key_of.Given as goal
 
 abbrev pub invariant-loop-thread : goal.invariant-loop-thread

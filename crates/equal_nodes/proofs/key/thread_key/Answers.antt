@@ -1,7 +1,7 @@
 use Rattle.std.proofs.Common.{cond, eqb, get_or, [], ◌∷◌, sym, ap, ◌∙◌}
 use Rattle.memory_likeness.specs.Likeness.{without_stamps}
 use Rattle.outcome_moves.proofs.Callers.{no_entry}
-use Rattle.equal_nodes.specs.Key.{thread_key}
+use Rattle.equal_nodes.specs.Keys.{thread_key}
 use Rattle.equal_nodes.proofs.Keys.{thread_more}
 use Rattle.equal_nodes.proofs.key.thread_key.Goals as goal
 

@@ -27,7 +27,7 @@ returns-clause-explored c =
     let here : get_or kept c.args.at entries ≡ entries = first_of (search rules, cc) in
     ok_then c.enter_all.result
     (λ entered. λ n q.
-        subst (IsExplored p steps c.enter_all.new.kept.runs.items c.enter_all.new.failed.items)
-        (sym (ap (node_of p steps) here) ∙ sym (get_or-map (node_of p steps) kept c.args.at entries n c.requires.there) ∙ q)
-        (explored_by p steps (node_of p steps entries) c.in_ok-moves.moves.items c.enter_all.new.kept.runs.items c.enter_all.new.failed.items c.in_ok-moves.ensures.all entered))
+    subst (IsExplored p steps c.enter_all.new.kept.runs.items c.enter_all.new.failed.items)
+    (sym (ap (node_of p steps) here) ∙ sym (get_or-map (node_of p steps) kept c.args.at entries n c.requires.there) ∙ q)
+    (explored_by p steps (node_of p steps entries) c.in_ok-moves.moves.items c.enter_all.new.kept.runs.items c.enter_all.new.failed.items c.in_ok-moves.ensures.all entered))
     c.enter_all.ensures.entered

@@ -2,7 +2,7 @@ use Rattle.std.proofs.Common.{rules, ◌≡◌, ℕ, [], ◌∷◌, ◌++◌, Li
 use Rattle.std.proofs.lemmas.Bool.{false≢true}
 use Rattle.values_undef.specs.declared.journal.Entry.{Entry}
 use Rattle.outcome_nodes.specs.Standing.{node_of}
-use Rattle.equal_nodes.specs.Key.{key_of}
+use Rattle.equal_nodes.specs.Keys.{key_of}
 use Rattle.outcome_search.specs.Runs.{AreKeptRuns}
 use Rattle.outcome_search.specs.Places.{ArePlaces, places_at}
 use Rattle.outcome_search.proofs.Keeping.{kept_more, too_many, not_there}
@@ -25,7 +25,7 @@ returns-clause-kept c =
     let before = c.args.kept.now.places in
     let after = c.note.new.places in
     let entries : c.deref-2.result.now ≡ c.args.run = first_of (search rules, cc) in
-    let key : c.in_ok-key.key ≡ key_of (node_of p steps c.args.run).told = first_of (search rules, cc, grind arith) in
+    let key : c.key_of-key.result ≡ key_of (node_of p steps c.args.run).told = first_of (search rules, cc, grind arith) in
     let place : c.len-place.result ≡ length runs = omega (arith, c.len-place.ensures) in
     record {
       runs = subst (AreKeptRuns p steps c.args.limit) (sym c.in_ok-push.ensures.items)
@@ -33,6 +33,6 @@ returns-clause-kept c =
           (not_there p steps runs runs c.deref-2.result.now c.args.run refl entries (λ q. absurd (false≢true (sym c.if-branch.false ∙ c.in_ok-has.ensures.1 q))))
           (omega (arith, c.if-place-limit.false, c.len-place.ensures)));
       places = subst (λ (q : List (List Entry)). ArePlaces p steps q (places_at after)) (sym c.in_ok-push.ensures.items)
-          (places_more p steps runs (places_at before) c.requires.kept.places c.args.run c.in_ok-key.key (places_at after) key
-          (λ k. c.in_ok-note.ensures k ∙ ap (λ (i : ℕ). places_at before k ++ cond (eqb k c.in_ok-key.key) (i ∷ []) []) place));
+          (places_more p steps runs (places_at before) c.requires.kept.places c.args.run c.key_of-key.result (places_at after) key
+          (λ k. c.in_ok-note.ensures k ∙ ap (λ (i : ℕ). places_at before k ++ cond (eqb k c.key_of-key.result) (i ∷ []) []) place));
     }

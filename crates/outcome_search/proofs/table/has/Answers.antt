@@ -7,8 +7,7 @@ use Rattle.outcome_search.proofs.table.has.Goals as goal
 
 pub returns-in_default : goal.returns-in_default
 returns-in_default c =
-    let none : places_at c.args.kept.now.places c.args.key ≡ [] = ap listed_in (sym c.in_default.ensures.value) in
-    (
+    let none : places_at c.args.kept.now.places c.args.key ≡ [] = ap listed_in (sym c.in_default.ensures.value) in (
       λ f. absurd (false≢true f),
       λ q. absurd (not_found c.args.p.now c.args._steps c.args.kept.now.runs.items (places_at c.args.kept.now.places) c.requires.kept.places c.args.key (node_of c.args.p.now c.args._steps c.args.entries.now) none c.requires.key q),
     )
@@ -25,5 +24,5 @@ returns c =
     let listed : c.deref-2.result.now ≡ places_at c.args.kept.now.places c.args.key = c.deref-2.ensures.value ∙ ap listed_in c.in-Some.ensures.value in
     if_ok_more c.has_at.result
     (λ b h.
-        found_exactly c.args.p.now c.args._steps c.args.kept.now.runs.items (places_at c.args.kept.now.places) c.requires.kept.places c.deref.result.now c.deref-2.result.now c.args.key (node_of c.args.p.now c.args._steps c.args.entries.now) b runs listed c.requires.key h)
+    found_exactly c.args.p.now c.args._steps c.args.kept.now.runs.items (places_at c.args.kept.now.places) c.requires.kept.places c.deref.result.now c.deref-2.result.now c.args.key (node_of c.args.p.now c.args._steps c.args.entries.now) b runs listed c.requires.key h)
     c.has_at.ensures

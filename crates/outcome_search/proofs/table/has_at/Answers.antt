@@ -18,8 +18,7 @@ returns-then-branch c =
     let other = c.deref.result.now in
     let l : k < length places = omega (arith, c.loop-k-test.true) in
     let below : i < length runs = all_get (λ (j : ℕ). j < length runs) places k 0 l c.requires.within in
-    let here : get_or runs i other ≡ other = first_of (search rules, cc) in
-    (
+    let here : get_or runs i other ≡ other = first_of (search rules, cc) in (
       λ _. at_place p steps runs places n k l (get_or-map (node_of p steps) runs i other n below ∙ ap (node_of p steps) here ∙ c.in_ok-same_node.ensures.0 c.if-branch.true),
       λ _. refl,
     )
