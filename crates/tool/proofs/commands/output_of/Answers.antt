@@ -6,3 +6,6 @@ returns-in-Seq g c = rw (c.in-Seq.is, sym c.as_slice-in-Seq.ensures) c.output-in
 
 pub returns-in-Litmus : goal.returns-in-Litmus
 returns-in-Litmus g c = rw c.in-Litmus.is c.output-in-Litmus.ensures
+
+pub returns-in-Outcomes : goal.returns-in-Outcomes
+returns-in-Outcomes g c = rw c.in-Outcomes.is c.output-in-Outcomes.ensures
