@@ -53,17 +53,14 @@ not_false true h = absurd (false≢true h)
 not_false false h = refl
 
 pub verdicts_of_runs : VerdictsAreOfRuns
-verdicts_of_runs p steps list e all =
-    (
-      λ is.
-        (
-          λ q. told_runs p steps (wanted e) list all.nothing_invented (sym (met_some e (told_outcomes p list) is) ∙ q),
-          λ s. met_some e (told_outcomes p list) is ∙ some_run p steps (wanted e) list all s,
-        ),
-      λ isnt.
-        let h = false_from_ne_true e.some isnt in
-        (
-          λ q s. true≢false (sym (some_run p steps (wanted e) list all s) ∙ not_false _ (sym (met_none e (told_outcomes p list) h) ∙ q)),
-          λ no. met_none e (told_outcomes p list) h ∙ ap not (false_from_ne_true (is_told p steps (wanted e) list) (λ q. no (told_runs p steps (wanted e) list all.nothing_invented q))),
-        ),
-    )
+verdicts_of_runs p steps list e all = (
+  λ is. (
+    λ q. told_runs p steps (wanted e) list all.nothing_invented (sym (met_some e (told_outcomes p list) is) ∙ q),
+    λ s. met_some e (told_outcomes p list) is ∙ some_run p steps (wanted e) list all s,
+  ),
+  λ isnt.
+      let h = false_from_ne_true e.some isnt in (
+        λ q s. true≢false (sym (some_run p steps (wanted e) list all s) ∙ not_false _ (sym (met_none e (told_outcomes p list) h) ∙ q)),
+        λ no. met_none e (told_outcomes p list) h ∙ ap not (false_from_ne_true (is_told p steps (wanted e) list) (λ q. no (told_runs p steps (wanted e) list all.nothing_invented q))),
+      ),
+)

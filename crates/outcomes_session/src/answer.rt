@@ -40,7 +40,13 @@ pub fn outcomes_answer(
     ensures { IfOk result (λ a. IsOutcomesSession input.now steps states a) }
 {
     match read_litmus(alloc, input) {
-        Ok(read) => match tell(alloc, &read.program, read.expectations.as_slice(), steps, states)? {
+        Ok(read) => match tell(
+            alloc,
+            &read.program,
+            read.expectations.as_slice(),
+            steps,
+            states,
+        )? {
             Telling::TooMany => Ok(OutcomesAnswer::TooMany),
             Telling::Told { text, met } => Ok(OutcomesAnswer::Told { text, met }),
         },

@@ -21,10 +21,7 @@ use values_undef::{Bytes, NoMemory};
 #[derive(Drop)]
 pub(crate) enum Telling {
     TooMany,
-    Told {
-        text: Bytes,
-        met: bool,
-    },
+    Told { text: Bytes, met: bool },
 }
 
 /// The text of the outcomes, and what each comes to.

@@ -94,7 +94,12 @@ pub(crate) fn push_found(
     push(out, b"outcome\n")?;
     push_ending(out, found.outcome.ending)?;
     push_outputs(out, outcome.outputs.as_slice())?;
-    push_final_lines(out, p, found.outcome.ending, found.outcome.values.as_slice())?;
+    push_final_lines(
+        out,
+        p,
+        found.outcome.ending,
+        found.outcome.values.as_slice(),
+    )?;
     push_titled(out, b"journal", p, found.journal.entries.as_slice())?;
     Ok(())
 }
