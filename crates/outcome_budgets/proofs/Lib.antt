@@ -1,0 +1,7 @@
+mod Standing
+mod Within
+mod Asking
+mod Turning
+mod Completing
+mod Cutting
+mod Greater

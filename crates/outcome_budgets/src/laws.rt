@@ -1,0 +1,30 @@
+//! Laws over the definitions, each the contract of a function that does nothing.
+ghost use Rattle.outcome_budgets.specs.Budgets.{RunsCanBeCompleted, OutcomesExist, DoneOutcomesStay, DoneListsAreOfEveryBudget, DoneProgramsEnd, DoneRunsAreOfEveryBudget};
+
+/// Each run within a budget can be gone on with to one that is complete for it.
+pub fn runs_can_be_completed()
+    ensures { RunsCanBeCompleted }
+{}
+
+/// A program has an outcome within each budget.
+pub fn outcomes_exist()
+    ensures { OutcomesExist }
+{}
+
+/// An outcome that is done within a budget is one within each greater budget.
+pub fn done_outcomes_stay()
+    ensures { DoneOutcomesStay }
+{}
+
+/// Where each outcome within a budget is done, those within each greater budget are the same. So runs that have all of
+/// them have all outcomes within each greater budget.
+pub fn done_lists_are_of_every_budget()
+    ensures outcomes { DoneListsAreOfEveryBudget }
+    ensures runs { DoneRunsAreOfEveryBudget }
+{}
+
+/// A program whose outcomes within a budget are all done comes to its end: no run of it fails, and in none that isn't
+/// stopped does a thread use more steps.
+pub fn done_programs_end()
+    ensures { DoneProgramsEnd }
+{}
