@@ -46,7 +46,7 @@ AreAllDone p steps = (o : FinalOutcome) → IsOutcome p steps o → o.ending ≡
 abbrev pub DoneListsAreOfEveryBudget : Type 0
 DoneListsAreOfEveryBudget = (p : Program) (few many : ℕ) (o : FinalOutcome) → IsProperProgram p → few ≤ many → AreAllDone p few → IsOutcome p many o ↔ IsOutcome p few o
 
--- And the program comes to its end: no run of it fails, and in none that isn't stopped does a thread use more steps.
+-- And the program comes to its end: no run of it fails, and where no thread is stopped none uses more steps.
 abbrev pub DoneProgramsEnd : Type 0
 DoneProgramsEnd = (p : Program) (steps : ℕ) (entries : List Entry) → IsProperProgram p → AreAllDone p steps → IsJournalRun p entries → ((i : ℕ) → i < length p.threads → has_spent entries i ≡ false)
     → (last_fails entries ≡ false) × ((i : ℕ) → i < length p.threads → used_steps entries i ≤ steps)

@@ -23,8 +23,8 @@ pub fn done_lists_are_of_every_budget()
     ensures runs { DoneRunsAreOfEveryBudget }
 {}
 
-/// A program whose outcomes within a budget are all done comes to its end: no run of it fails, and in none that isn't
-/// stopped does a thread use more steps.
+/// A program whose outcomes within a budget are all done comes to its end: no run of it fails, and where no thread is
+/// stopped none uses more steps.
 pub fn done_programs_end()
     ensures { DoneProgramsEnd }
 {}
