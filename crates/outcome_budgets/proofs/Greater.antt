@@ -18,7 +18,7 @@ use Rattle.run_choices.specs.Complete.{IsComplete, has_spent}
 use Rattle.run_choices.proofs.Callers.{finished_unspent}
 use Rattle.outcome_nodes.specs.Outcome.{FinalOutcome, final_outcome_of, IsOutcome, HaveAllOutcomes}
 use Rattle.outcome_nodes.proofs.Callers.{entry_done}
-use Rattle.outcome_budgets.specs.Budgets.{KeepsBudget, CanBeCompleted, OutcomesExist, DoneOutcomesStay, AreAllDone, DoneListsAreOfEveryBudget, DoneProgramsEnd, AreRunsDone, DoneRunsAreOfEveryBudget}
+use Rattle.outcome_budgets.specs.Budgets.{KeepsBudget, CanBeCompleted, OutcomesExist, NoneIsStopped, UnstoppedListsAreOfEveryBudget, UnstoppedRunsAreWithin, DoneOutcomesStay, AreAllDone, NoneIsStoppedWhereDone, DoneListsAreOfEveryBudget, DoneProgramsEnd, AreRunsDone, DoneRunsAreOfEveryBudget}
 use Rattle.outcome_budgets.proofs.Standing.{Stands, stands_first, stands_all}
 use Rattle.outcome_budgets.proofs.Completing.{runs_completed}
 use Rattle.outcome_budgets.proofs.Cutting.{IsSpentRun, within_or_cut}
@@ -50,16 +50,40 @@ done_ends entries n h = ends (last_fails entries) (all_finished entries n) h
 done_unspent : (p : Program) (entries : List Entry) (i : ℕ) → IsJournalRun p entries → (final_outcome_of p entries).ending ≡ Done → i < length p.threads → has_spent entries i ≡ false
 done_unspent p entries i run d l = finished_unspent p entries i run (finished_each entries (length p.threads) i (done_ends entries (length p.threads) d).1 l)
 
-complete_for_more : (p : Program) (few many : ℕ) (entries : List Entry) → few ≤ many → IsJournalRun p entries → IsComplete p entries few → (final_outcome_of p entries).ending ≡ Done → IsComplete p entries many
-complete_for_more p few many entries l run c d = record {
+-- ---- where no thread is stopped
+
+complete_for_more : (p : Program) (few many : ℕ) (entries : List Entry) → few ≤ many → IsComplete p entries few → ((i : ℕ) → i < length p.threads → has_spent entries i ≡ false) → IsComplete p entries many
+complete_for_more p few many entries l c going = record {
   within = λ i there. omega (arith, c.within i there, l);
-  spent = λ i there h. absurd (true≢false (sym h ∙ done_unspent p entries i run d there));
+  spent = λ i there h. absurd (true≢false (sym h ∙ going i there));
   whole = c.whole;
 }
 
-failed_stays : (p : Program) (s : State) (entries : List Entry) → s.memory.failed ≡ true → IsRunFrom p s entries → (state_after p s entries).memory.failed ≡ true
-failed_stays p s [] f h = f
-failed_stays p s (e ∷ entries) f h = absurd (false≢true (sym (entry_done p s e h.0).running.running ∙ f))
+module _ (p : Program) (steps : ℕ) (ok : IsProperProgram p) (none : NoneIsStopped p steps) where
+  -- a run in which no thread is stopped before the end of the budget keeps it
+  keeps : (entries : List Entry) → IsJournalRun p entries → ((i : ℕ) → i < length p.threads → has_spent entries i ≡ true → steps ≤ used_steps entries i) → KeepsBudget p entries steps
+  keeps entries run full =
+      ⊎_elim (λ (w : KeepsBudget p entries steps). w)
+      (λ (r : IsSpentRun p steps). absurd (true≢false (sym r.spent ∙ none r.entries r.thread r.run r.complete r.there)))
+      (within_or_cut p steps entries ok full [] entries (initial_state p) refl (stands_first p) (record { within = λ i l. omega arith; spent = λ i l h. absurd (false≢true h) }) run)
+
+  -- so does one in which none is stopped at all
+  keeps_unstopped : (entries : List Entry) → IsJournalRun p entries → ((i : ℕ) → i < length p.threads → has_spent entries i ≡ false) → KeepsBudget p entries steps
+  keeps_unstopped entries run going = keeps entries run (λ i l h. absurd (true≢false (sym h ∙ going i l)))
+
+  fewer : (many : ℕ) (o : FinalOutcome) → steps ≤ many → IsOutcome p many o → IsOutcome p steps o
+  fewer many o l q =
+      let w = keeps q.entries q.run (λ i t h. let full = q.complete.spent i t h in omega (arith, full, l)) in
+      record { entries = q.entries; run = q.run; complete = record { within = w.within; spent = w.spent; whole = q.complete.whole }; outcome = q.outcome }
+
+pub unstopped_lists : UnstoppedListsAreOfEveryBudget
+unstopped_lists p few many o ok l none = (fewer p few ok none many o l, more)
+  where
+    more : IsOutcome p few o → IsOutcome p many o
+    more q = record { entries = q.entries; run = q.run; complete = complete_for_more p few many q.entries l q.complete (λ i there. none q.entries i q.run q.complete there); outcome = q.outcome }
+
+pub unstopped_runs : UnstoppedRunsAreWithin
+unstopped_runs p steps entries ok none run going i l = (keeps_unstopped p steps ok none entries run going).within i l
 
 -- ---- outcomes that are there
 
@@ -72,54 +96,53 @@ pub done_stay : DoneOutcomesStay
 done_stay p few many o l q d = record {
   entries = q.entries;
   run = q.run;
-  complete = complete_for_more p few many q.entries l q.run q.complete (ap (λ (x : FinalOutcome). x.ending) q.outcome ∙ d);
+  complete = complete_for_more p few many q.entries l q.complete (λ i there. done_unspent p q.entries i q.run (ap (λ (x : FinalOutcome). x.ending) q.outcome ∙ d) there);
   outcome = q.outcome;
 }
 
 -- ---- where each outcome is done
 
-module _ (p : Program) (steps : ℕ) (ok : IsProperProgram p) (all : AreAllDone p steps) where
-  run_done : (entries : List Entry) → IsJournalRun p entries → IsComplete p entries steps → (final_outcome_of p entries).ending ≡ Done
-  run_done entries run c = all (final_outcome_of p entries) (record { entries = entries; run = run; complete = c; outcome = refl })
+run_done : (p : Program) (steps : ℕ) (entries : List Entry) → AreAllDone p steps → IsJournalRun p entries → IsComplete p entries steps → (final_outcome_of p entries).ending ≡ Done
+run_done p steps entries all run c = all (final_outcome_of p entries) (record { entries = entries; run = run; complete = c; outcome = refl })
 
-  -- a run in which no thread is stopped before the end of the budget is within it
-  is_within : (entries : List Entry) → IsJournalRun p entries → ((i : ℕ) → i < length p.threads → has_spent entries i ≡ true → steps ≤ used_steps entries i) → KeepsBudget p entries steps
-  is_within entries run full =
-      ⊎_elim (λ (w : KeepsBudget p entries steps). w)
-      (λ (r : IsSpentRun p steps). absurd (true≢false (sym r.spent ∙ done_unspent p r.entries r.thread r.run (run_done r.entries r.run r.complete) r.there)))
-      (within_or_cut p steps entries ok full [] entries (initial_state p) refl (stands_first p) (record { within = λ i l. omega arith; spent = λ i l h. absurd (false≢true h) }) run)
-
-  fewer : (many : ℕ) (o : FinalOutcome) → steps ≤ many → IsOutcome p many o → IsOutcome p steps o
-  fewer many o l q =
-      let w = is_within q.entries q.run (λ i t h. let full = q.complete.spent i t h in omega (arith, full, l)) in
-      record { entries = q.entries; run = q.run; complete = record { within = w.within; spent = w.spent; whole = q.complete.whole }; outcome = q.outcome }
-
-  -- a run that has failed does so whatever comes behind it
-  unfailed : (entries : List Entry) → IsJournalRun p entries → KeepsBudget p entries steps → last_fails entries ≡ false
-  unfailed entries run w = ⊎_elim fails (λ (q : last_fails entries ≡ false). q) (cases_Bool (last_fails entries))
-    where
-      c : CanBeCompleted p entries steps
-      c = runs_completed p entries steps ok run w
-
-      st : Stands p entries (state_after p (initial_state p) entries)
-      st = stands_all p [] entries (initial_state p) (stands_first p) run
-
-      more : IsRunFrom p (state_after p (initial_state p) entries) c.more
-      more = (runs_cut p (initial_state p) entries c.more c.run).1
-
-      fails : last_fails entries ≡ true → last_fails entries ≡ false
-      fails q =
-          let f = (stands_all p entries c.more (state_after p (initial_state p) entries) st more).fails ∙ failed_stays p (state_after p (initial_state p) entries) c.more (sym st.fails ∙ q) more in
-          absurd (false≢true (sym (done_ends (entries ++ c.more) (length p.threads) (run_done (entries ++ c.more) c.run c.complete)).0 ∙ f))
+pub done_unstopped : NoneIsStoppedWhereDone
+done_unstopped p steps all entries i run c there = done_unspent p entries i run (run_done p steps entries all run c) there
 
 pub done_lists : DoneListsAreOfEveryBudget
-done_lists p few many o ok l all = (fewer p few ok all many o l, λ q. done_stay p few many o l q (all o q))
+done_lists p few many o ok l all = unstopped_lists p few many o ok l (done_unstopped p few all)
+
+failed_stays : (p : Program) (s : State) (entries : List Entry) → s.memory.failed ≡ true → IsRunFrom p s entries → (state_after p s entries).memory.failed ≡ true
+failed_stays p s [] f h = f
+failed_stays p s (e ∷ entries) f h = absurd (false≢true (sym (entry_done p s e h.0).running.running ∙ f))
+
+module _ (p : Program) (steps : ℕ) (entries : List Entry) (ok : IsProperProgram p) (all : AreAllDone p steps) (run : IsJournalRun p entries) (w : KeepsBudget p entries steps) where
+  c : CanBeCompleted p entries steps
+  c = runs_completed p entries steps ok run w
+
+  st : Stands p entries (state_after p (initial_state p) entries)
+  st = stands_all p [] entries (initial_state p) (stands_first p) run
+
+  more : IsRunFrom p (state_after p (initial_state p) entries) c.more
+  more = (runs_cut p (initial_state p) entries c.more c.run).1
+
+  -- a run that has failed goes on with nothing
+  fails : last_fails entries ≡ true → last_fails (entries ++ c.more) ≡ true
+  fails q =
+      (stands_all p entries c.more (state_after p (initial_state p) entries) st more).fails
+      ∙ failed_stays p (state_after p (initial_state p) entries) c.more (sym st.fails ∙ q) more
+
+  unfailed : last_fails entries ≡ false
+  unfailed =
+      ⊎_elim
+      (λ (q : last_fails entries ≡ true). absurd (false≢true (sym (done_ends (entries ++ c.more) (length p.threads) (run_done p steps (entries ++ c.more) all c.run c.complete)).0 ∙ fails q)))
+      (λ (q : last_fails entries ≡ false). q)
+      (cases_Bool (last_fails entries))
 
 pub done_end : DoneProgramsEnd
-done_end p steps entries ok all run going = (unfailed p steps ok all entries run w, w.within)
+done_end p steps entries ok all run going = (unfailed p steps entries ok all run w, w.within)
   where
     w : KeepsBudget p entries steps
-    w = is_within p steps ok all entries run (λ i l h. absurd (true≢false (sym h ∙ going i l)))
+    w = keeps_unstopped p steps ok (done_unstopped p steps all) entries run going
 
 -- ---- runs that have all outcomes
 
@@ -132,7 +155,7 @@ all_done p steps runs done have o q =
 all_complete : (p : Program) (few many : ℕ) (runs : List (List Entry)) → few ≤ many → AreRunsDone p runs → AllByRecursion (λ entries. IsJournalRun p entries × IsComplete p entries few) runs
     → AllByRecursion (λ entries. IsJournalRun p entries × IsComplete p entries many) runs
 all_complete p few many [] l done h = tt
-all_complete p few many (entries ∷ runs) l done h = ((h.0.0, complete_for_more p few many entries l h.0.0 h.0.1 done.0), all_complete p few many runs l done.1 h.1)
+all_complete p few many (entries ∷ runs) l done h = ((h.0.0, complete_for_more p few many entries l h.0.1 (λ i there. done_unspent p entries i h.0.0 done.0 there)), all_complete p few many runs l done.1 h.1)
 
 pub done_runs : DoneRunsAreOfEveryBudget
 done_runs p few many runs ok l done have = record {

@@ -33,6 +33,20 @@ OutcomesExist = (p : Program) (steps : ℕ) → IsProperProgram p → (o : Final
 
 -- ---- greater budgets
 
+-- no thread is stopped in a run that is complete for the budget
+abbrev pub NoneIsStopped : Program → ℕ → Type 0
+NoneIsStopped p steps = (entries : List Entry) (i : ℕ) → IsJournalRun p entries → IsComplete p entries steps → i < length p.threads → has_spent entries i ≡ false
+
+-- Then the outcomes within each greater budget are the same, and where no thread is stopped none uses more steps.
+abbrev pub UnstoppedListsAreOfEveryBudget : Type 0
+UnstoppedListsAreOfEveryBudget = (p : Program) (few many : ℕ) (o : FinalOutcome) → IsProperProgram p → few ≤ many → NoneIsStopped p few → IsOutcome p many o ↔ IsOutcome p few o
+
+abbrev pub UnstoppedRunsAreWithin : Type 0
+UnstoppedRunsAreWithin = (p : Program) (steps : ℕ) (entries : List Entry) → IsProperProgram p → NoneIsStopped p steps → IsJournalRun p entries → ((i : ℕ) → i < length p.threads → has_spent entries i ≡ false)
+    → (i : ℕ) → i < length p.threads → used_steps entries i ≤ steps
+
+-- ---- lists that are done
+
 -- an outcome that is done within a budget is one within each greater budget
 abbrev pub DoneOutcomesStay : Type 0
 DoneOutcomesStay = (p : Program) (few many : ℕ) (o : FinalOutcome) → few ≤ many → IsOutcome p few o → o.ending ≡ Done → IsOutcome p many o
@@ -41,8 +55,12 @@ DoneOutcomesStay = (p : Program) (few many : ℕ) (o : FinalOutcome) → few ≤
 abbrev pub AreAllDone : Program → ℕ → Type 0
 AreAllDone p steps = (o : FinalOutcome) → IsOutcome p steps o → o.ending ≡ Done
 
--- Where each outcome within a budget is done, those within each greater budget are the same. It is not so where one
--- fails: a thread that prints for ever, beside one that fails, prints more before that within a greater budget.
+-- Then no thread is stopped. Where one fails it need not be so, though none is spent: a thread that prints for ever,
+-- beside one that fails, may be stopped before that, and prints more within a greater budget.
+abbrev pub NoneIsStoppedWhereDone : Type 0
+NoneIsStoppedWhereDone = (p : Program) (steps : ℕ) → AreAllDone p steps → NoneIsStopped p steps
+
+-- So the outcomes within each greater budget are the same.
 abbrev pub DoneListsAreOfEveryBudget : Type 0
 DoneListsAreOfEveryBudget = (p : Program) (few many : ℕ) (o : FinalOutcome) → IsProperProgram p → few ≤ many → AreAllDone p few → IsOutcome p many o ↔ IsOutcome p few o
 
