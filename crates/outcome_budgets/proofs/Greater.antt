@@ -87,6 +87,10 @@ unstopped_runs p steps entries ok none run going i l = (keeps_unstopped p steps 
 
 -- ---- outcomes that are there
 
+-- a run that is done is complete for each greater budget
+pub done_complete : (p : Program) (few many : ℕ) (entries : List Entry) → few ≤ many → IsJournalRun p entries → IsComplete p entries few → (final_outcome_of p entries).ending ≡ Done → IsComplete p entries many
+done_complete p few many entries l run c d = complete_for_more p few many entries l c (λ i there. done_unspent p entries i run d there)
+
 pub outcomes_exist : OutcomesExist
 outcomes_exist p steps ok =
     let c = runs_completed p [] steps ok tt (record { within = λ i l. omega arith; spent = λ i l h. absurd (false≢true h) }) in
@@ -96,7 +100,7 @@ pub done_stay : DoneOutcomesStay
 done_stay p few many o l q d = record {
   entries = q.entries;
   run = q.run;
-  complete = complete_for_more p few many q.entries l q.complete (λ i there. done_unspent p q.entries i q.run (ap (λ (x : FinalOutcome). x.ending) q.outcome ∙ d) there);
+  complete = done_complete p few many q.entries l q.run q.complete (ap (λ (x : FinalOutcome). x.ending) q.outcome ∙ d);
   outcome = q.outcome;
 }
 
@@ -155,7 +159,7 @@ all_done p steps runs done have o q =
 all_complete : (p : Program) (few many : ℕ) (runs : List (List Entry)) → few ≤ many → AreRunsDone p runs → AllByRecursion (λ entries. IsJournalRun p entries × IsComplete p entries few) runs
     → AllByRecursion (λ entries. IsJournalRun p entries × IsComplete p entries many) runs
 all_complete p few many [] l done h = tt
-all_complete p few many (entries ∷ runs) l done h = ((h.0.0, complete_for_more p few many entries l h.0.1 (λ i there. done_unspent p entries i h.0.0 done.0 there)), all_complete p few many runs l done.1 h.1)
+all_complete p few many (entries ∷ runs) l done h = ((h.0.0, done_complete p few many entries l h.0.0 h.0.1 done.0), all_complete p few many runs l done.1 h.1)
 
 pub done_runs : DoneRunsAreOfEveryBudget
 done_runs p few many runs ok l done have = record {

@@ -5,3 +5,4 @@ mod Turning
 mod Completing
 mod Cutting
 mod Greater
+pub mod Callers
