@@ -1,6 +1,6 @@
--- The turns of a first walk, and what a second makes of them.
+-- The turns that a walk finds, and what the next makes of them.
 use Rattle.std.proofs.Common.{◌≡◌, ◌≤◌, ◌<◌, ℕ, ◌+◌, Bool, true, false, List, [], ◌∷◌, ◌++◌, length, get_or, drop, reverse, refl, sym, ap, ◌∙◌, append_assoc, append-nil, subst, ⊎_elim, arith}
-use Rattle.std.proofs.lemmas.List.{reverse-append}
+use Rattle.std.proofs.lemmas.List.{reverse-append, length-append, nil_from_length}
 use Rattle.il_syntax.specs.declared.statement.Atom.{Atom}
 use Rattle.il_syntax.specs.declared.statement.Stmt.{Stmt, If, While}
 use Rattle.il_syntax.specs.declared.statement.Stmt.TheOpen as open_form
@@ -12,7 +12,7 @@ use Rattle.il_paths.proofs.Callers.{Shape, plain_shape, if_shape, while_shape, s
 use Rattle.path_meets.specs.Walks.{meet, enter}
 use Rattle.path_meets.proofs.Callers.{least_is, least_rank, enter_monotone, enter-placed, enter_tree-drop, after_tree-drop, enter_tree-while}
 use Rattle.backward_sets.specs.Walk.{before_tree, after_sites}
-use Rattle.backward_sets.specs.Turns.{turns_of, Fills}
+use Rattle.backward_sets.specs.Turns.{turns_of, AreFound, AreTurns, none_yet, are_found, Fills}
 use Rattle.backward_sets.specs.Meets.{KeepsOrder}
 use Rattle.backward_sets.proofs.SetLaws.{head_of-while, before_if, after_if, after_while}
 
@@ -73,13 +73,38 @@ module _ (rank : Bool → ℕ) (change : ℕ → Head → Bool → Bool) (x : �
         ∙ ap (λ (b : Bool). old ++ change x w (before_tree rank change x (tree_of body) b) ∷ turns_of rank change x (tree_of body) b) k
         ∙ ap (λ (bs : List Bool). old ++ bs) (sym (turns_of-while a body e))
 
+  -- where there are none yet, all turns are found
+  none_before : (xs ys : List Bool) → [] ≡ xs ++ ys → xs ≡ []
+  none_before xs ys e = let short = ap length e ∙ length-append xs ys in nil_from_length xs (omega (arith, short))
+
+  pub found_now : (t : Tree) (l : Bool) (turns others new : List Bool) → turns ≡ [] → AreTurns rank change x t l turns others → new ≡ turns ++ turns_of rank change x t l → AreFound rank change x t l (reverse new) others
+  found_now t l turns others new none f is = record { first = l; above = omega arith; is = ap reverse (is ∙ ap (λ (bs : List Bool). bs ++ turns_of rank change x t l) none) ∙ ap (λ (bs : List Bool). bs ++ reverse (turns_of rank change x t l)) (sym (empty f)) }
+    where
+      empty : AreTurns rank change x t l turns others → others ≡ []
+      empty (none_yet e o) = o
+      empty (are_found g) = none_before others (reverse (turns_of rank change x t g.first)) (sym none ∙ g.is)
+
   -- the turns of what comes later are taken first
-  taken_first : (turns more ones others : List Bool) → turns ≡ more ++ reverse (ones ++ others) → turns ≡ (more ++ reverse others) ++ reverse ones
-  taken_first turns more ones others e = e ∙ ap (λ (bs : List Bool). more ++ bs) (reverse-append ones others) ∙ sym (append_assoc more (reverse others) (reverse ones))
+  taken_first : (turns others ones twos : List Bool) → turns ≡ others ++ reverse (ones ++ twos) → turns ≡ (others ++ reverse twos) ++ reverse ones
+  taken_first turns others ones twos e = e ∙ ap (λ (bs : List Bool). others ++ bs) (reverse-append ones twos) ∙ sym (append_assoc others (reverse twos) (reverse ones))
 
   -- nothing is found of no statement
   pub fills_none : (l : Bool) (turns sets : List Bool) → Fills rank change x Empty l turns sets l turns sets
-  fills_none l turns sets first more h e = (refl, sym (append-nil sets), e ∙ append-nil more)
+  fills_none l turns sets others (none_yet e o) = (refl, sym (append-nil sets), e ∙ sym o)
+  fills_none l turns sets others (are_found f) = (refl, sym (append-nil sets), f.is ∙ append-nil others)
+
+  -- turns of a tree of two parts: those of the later part are taken first, and then those of the earlier
+  in_parts : (whole late early : Tree) (before : Bool → Bool) → ((b : Bool) → turns_of rank change x whole b ≡ turns_of rank change x late b ++ turns_of rank change x early (before b)) →
+      (l : Bool) (turns others : List Bool) → AreTurns rank change x whole l turns others →
+      (left : List Bool) × AreTurns rank change x late l turns left × ((m : Bool) (taken : List Bool) → taken ≡ left → ((b : Bool) → rank l ≤ rank b → rank m ≤ rank (before b)) → AreTurns rank change x early m taken others)
+  in_parts whole late early before joined l turns others (none_yet e o) = ([], none_yet e refl, λ m taken is below. none_yet is o)
+  in_parts whole late early before joined l turns others (are_found f) =
+      let ones = turns_of rank change x late f.first in
+      let twos = turns_of rank change x early (before f.first) in (
+        others ++ reverse twos,
+        are_found (record { first = f.first; above = f.above; is = taken_first turns others ones twos (f.is ∙ ap (λ (bs : List Bool). others ++ reverse bs) (joined f.first)) }),
+        λ m taken is below. are_found (record { first = before f.first; above = below f.first f.above; is = is }),
+      )
 
   module _ (keeps : KeepsOrder rank change) where
     before_monotone : (t : Tree) (a b : Bool) → rank a ≤ rank b → rank (before_tree rank change x t a) ≤ rank (before_tree rank change x t b)
@@ -94,16 +119,13 @@ module _ (rank : Bool → ℕ) (change : ℕ → Head → Bool → Bool) (x : �
     pub fills_on : (ss : List Stmt) (i : ℕ) (s : Stmt) (l m n : Bool) (turns turns1 turns2 sets sets1 sets2 : List Bool) → i < length ss → s ≡ get_or ss i s →
         Fills rank change x (tree_of_all (drop (i + 1) ss)) l turns sets m turns1 sets1 → Fills rank change x (before_rest s Empty) m turns1 sets1 n turns2 sets2 →
         Fills rank change x (tree_of_all (drop i ss)) l turns sets n turns2 sets2
-    fills_on ss i s l m n turns turns1 turns2 sets sets1 sets2 inside is f g first more h e =
+    fills_on ss i s l m n turns turns1 turns2 sets sets1 sets2 inside is f g others told =
         let rest = tree_of_all (drop (i + 1) ss) in
         let it = before_rest s Empty in
         let b = before_tree rank change x rest l in
-        let high = before_tree rank change x rest first in
-        let ones = turns_of rank change x rest first in
-        let others = turns_of rank change x it high in
-        let p = f first (more ++ reverse others) h (taken_first turns more ones others (e ∙ ap (λ (bs : List Bool). more ++ reverse bs) (turns_of-drop ss i s first inside is))) in
-        let below = subst (λ c. rank c ≤ rank high) (sym p.0) (before_monotone rest l first h) in
-        let q = g high more below p.2 in
+        let parts = in_parts (tree_of_all (drop i ss)) rest it (before_tree rank change x rest) (λ c. turns_of-drop ss i s c inside is) l turns others told in
+        let p = f parts.0 parts.1 in
+        let q = g others (parts.2 m turns1 p.2 (λ c h. subst (λ d. rank d ≤ rank (before_tree rank change x rest c)) (sym p.0) (before_monotone rest l c h))) in
         let late = after_sites rank change x rest l in
         let early = after_sites rank change x it b in (
           q.0 ∙ ap (before_tree rank change x it) p.0 ∙ sym (enter_tree-drop Bool rank 1 (change x) ss i s l inside is),
@@ -118,30 +140,31 @@ module _ (rank : Bool → ℕ) (change : ℕ → Head → Bool → Bool) (x : �
       pub fills_if : (a : Atom) (one other : Block) → s ≡ If a one other → (yes_set no_set low new : Bool) →
           Fills rank change x (tree_of other) l turns sets no_set turns1 sets1 → Fills rank change x (tree_of one) l turns1 sets1 yes_set turns2 sets2 →
           low ≡ meet Bool rank yes_set no_set → last ≡ sets2 ++ low ∷ [] → new ≡ change x (head_of s) low → Fills rank change x (before_rest s Empty) l turns sets new turns2 last
-      fills_if a one other e yes_set no_set low new f g lo el is first more h et =
-          let ones = turns_of rank change x (tree_of other) first in
-          let others = turns_of rank change x (tree_of one) first in
-          let p = f first (more ++ reverse others) h (taken_first turns more ones others (et ∙ ap (λ (bs : List Bool). more ++ reverse bs) (turns_of-if s first a one other e))) in
-          let q = g first more h p.2 in
+      fills_if a one other e yes_set no_set low new f g lo el is others told =
+          let parts = in_parts (before_rest s Empty) (tree_of other) (tree_of one) (λ b. b) (λ b. turns_of-if s b a one other e) l turns others told in
+          let p = f parts.0 parts.1 in
+          let q = g others (parts.2 l turns1 p.2 (λ b h. h)) in
           let found = lo ∙ (λ i. meet Bool rank (q.0 i) (p.0 i)) in
           (before_if rank change x s l a one other e low new found is, after_if rank change x s l a one other e sets sets1 sets2 last low p.1 q.1 el found, q.2)
 
       -- and a `while`
-      pub fills_while : (a : Atom) (body : Block) → s ≡ While a body → (once turn low again next : Bool) →
-          once ≡ change x (head_of s) l → ((taken : Bool) (more : List Bool) → turns ≡ more ++ taken ∷ [] → (turn ≡ taken) × (turns1 ≡ more)) → low ≡ meet Bool rank once turn →
+      pub fills_while : (a : Atom) (body : Block) → s ≡ While a body → (told : List Bool) (once turn low again next : Bool) →
+          ((others : List Bool) → AreTurns rank change x (before_rest s Empty) l turns others → AreFound rank change x (before_rest s Empty) l told others) →
+          once ≡ change x (head_of s) l → ((taken : Bool) (more : List Bool) → told ≡ more ++ taken ∷ [] → (turn ≡ taken) × (turns1 ≡ more)) → low ≡ meet Bool rank once turn →
           Fills rank change x (tree_of body) low turns1 sets again turns2 sets1 → next ≡ meet Bool rank l again → last ≡ sets1 ++ next ∷ [] →
           Fills rank change x (before_rest s Empty) l turns sets low turns2 last
-      fills_while a body e once turn low again next o take lo f nx el first more h et =
+      fills_while a body e told once turn low again next find o take lo f nx el others tell =
           let w = open_form.While a tt in
           let around = λ (m : Bool). change x w (before_tree rank change x (tree_of body) m) in
           let k : once ≡ change x w l = o ∙ ap (λ (head : Head). change x head l) (head_of-while s a body e) in
-          let high = change x w first in
+          let g = find others tell in
+          let high = change x w g.first in
           let inner = turns_of rank change x (tree_of body) high in
-          let t = take (around high) (more ++ reverse inner) (taken_first turns more (around high ∷ []) inner (et ∙ ap (λ (bs : List Bool). more ++ reverse bs) (turns_of-while s first a body e))) in
-          let below : rank (change x w l) ≤ rank high = keeps.monotone x (record { site = 0; head = w }) l first h in
+          let t = take (around high) (others ++ reverse inner) (taken_first told others (around high ∷ []) inner (g.is ∙ ap (λ (bs : List Bool). others ++ reverse bs) (turns_of-while s g.first a body e))) in
+          let below : rank (change x w l) ≤ rank high = keeps.monotone x (record { site = 0; head = w }) l g.first g.above in
           let known : low ≡ meet Bool rank (change x w l) (around (change x w l)) = lo ∙ (λ i. meet Bool rank (k i) (t.0 i)) ∙ turn_serves rank (change x w l) high around below in
           let found = known ∙ sym (enter_tree-while Bool rank 1 (change x) s a body l e) in
           let lowest = (least_rank Bool rank (change x w l) (around (change x w l))).0 in
           let same = ap rank known in
-          let p = f high more (omega (arith, lowest, same, below)) t.1 in
+          let p = f others (are_found (record { first = high; above = omega (arith, lowest, same, below); is = t.1 })) in
           (found, after_while rank change x s l a body e sets sets1 last low next found p.1 (nx ∙ ap (meet Bool rank l) p.0) el, p.2)

@@ -1,5 +1,5 @@
--- What the first walk hands to the second: of each loop, what a turn of it makes of what is known after it. No public
--- clause cites this file.
+-- What a walk of a loop hands to the next: of that loop and those in it, what a turn makes of what is known after it.
+-- No public clause cites this file.
 use Rattle.std.specs.Prelude.{◌≡◌, ◌≤◌, ℕ, Bool, List, [], ◌∷◌, ◌++◌, reverse}
 use Rattle.il_syntax.specs.declared.statement.Stmt.TheOpen.{While}
 use Rattle.il_syntax.specs.Statements.{Head}
@@ -17,9 +17,19 @@ turns_of rank change x (WhileThen test body rest) later =
     let once = change x (While test tt) (before_tree rank change x rest later) in
     turns_of rank change x rest later ++ (change x (While test tt) (before_tree rank change x body once) ∷ turns_of rank change x body once)
 
--- What the second walk finds of a tree, `before` it and in the sets after its sites, and the turns that it leaves. The
--- turns come from a walk that was told no less of what is known after the tree.
+-- turns that end with those of the tree's loops, as a walk found them that was told no less of what is known after it
+pub record AreFound (rank : Bool → ℕ) (change : ℕ → Head → Bool → Bool) (x : ℕ) (tree : Tree) (later : Bool) (turns others : List Bool) : Type 0 where
+  pub first : Bool
+  pub above : rank later ≤ rank first
+  pub is : turns ≡ others ++ reverse (turns_of rank change x tree first)
+
+-- outside of all loops none has been found yet
+pub data AreTurns (rank : Bool → ℕ) (change : ℕ → Head → Bool → Bool) (x : ℕ) (tree : Tree) (later : Bool) (turns others : List Bool) : Type 0 where
+  none_yet : turns ≡ [] → others ≡ [] → AreTurns rank change x tree later turns others
+  are_found : AreFound rank change x tree later turns others → AreTurns rank change x tree later turns others
+
+-- what the next walk finds of a tree, before it and in the sets after its sites, and that it takes the tree's turns
 abbrev pub Fills : (Bool → ℕ) → (ℕ → Head → Bool → Bool) → ℕ → Tree → (later : Bool) → (turns sets : List Bool) → (before : Bool) → (left filled : List Bool) → Type 0
 Fills rank change x tree later turns sets before left filled =
-    (first : Bool) (more : List Bool) → rank later ≤ rank first → turns ≡ more ++ reverse (turns_of rank change x tree first) →
-    (before ≡ before_tree rank change x tree later) × (filled ≡ sets ++ reverse (after_sites rank change x tree later)) × (left ≡ more)
+    (others : List Bool) → AreTurns rank change x tree later turns others →
+    (before ≡ before_tree rank change x tree later) × (filled ≡ sets ++ reverse (after_sites rank change x tree later)) × (left ≡ others)

@@ -1,12 +1,12 @@
-//! The sets after all sites, by two walks from the end. The first finds what a turn of each loop makes of what is known
-//! after it, so that the second walks no body twice.
+//! The sets after all sites, by a walk from the end. At a loop that lies in no other a walk goes before it, which finds
+//! what a turn of each loop makes of what is known after it. So no body is walked more than twice.
 ghost use Rattle.std.specs.Prelude.{◌≡◌, ℕ, List, [], ◌∷◌, ◌++◌, Bool, reverse, IfOk, OnOk};
 ghost use Rattle.il_syntax.specs.Statements.{Head, head_of};
 ghost use Rattle.il_paths.specs.Tree.{Empty, tree_of, before_rest};
 ghost use Rattle.path_meets.specs.Walks.{meet};
 ghost use Rattle.location_sets.specs.Sets.{has, column};
 ghost use Rattle.backward_sets.specs.Walk.{before_tree, after_sites};
-ghost use Rattle.backward_sets.specs.Turns.{turns_of, Fills};
+ghost use Rattle.backward_sets.specs.Turns.{turns_of, AreFound, AreTurns, Fills};
 ghost use Rattle.backward_sets.specs.Meets.{KeepsOrder, AreMeetsAfter};
 
 use il_syntax::{Block, Stmt};
@@ -86,6 +86,23 @@ fn enter<B: Backward>(
     }
 }
 
+/// Finds the turns of a statement's loops, where none have been found yet.
+fn find_turns<B: Backward>(
+    alloc: Global,
+    walk: &B,
+    statement: &Stmt,
+    after: &[u32],
+    turns: &mut Vec<Set>,
+) -> Result<(), NoMemory>
+    ensures { OnOk result ((x : ℕ) (others : List Bool) → AreTurns (B.rank walk.now) (B.change walk.now) x (before_rest statement.now Empty) (has x after.now) (column x turns.old.items) others → AreFound (B.rank walk.now) (B.change walk.now) x (before_rest statement.now Empty) (has x after.now) (column x turns.new.items) others) }
+{
+    if turns.is_empty() {
+        enter(alloc, walk, statement, after, turns)?;
+        turns.reverse();
+    }
+    Ok(())
+}
+
 /// Takes the last of the turns.
 fn last_turn(alloc: Global, turns: &mut Vec<Set>) -> Set
     ensures { (x : ℕ) (turn : Bool) (more : List Bool) → column x turns.old.items ≡ more ++ turn ∷ [] → (has x result ≡ turn) × (column x turns.new.items ≡ more) }
@@ -96,8 +113,8 @@ fn last_turn(alloc: Global, turns: &mut Vec<Set>) -> Set
     }
 }
 
-/// Puts the sets after the sites of a block to the end, the last site's first, and answers the set before it. The turns
-/// of its loops stand at the end of the turns, the last loop's behind the others, and are taken from there.
+/// Puts the sets after the sites of a block to the end, the last site's first, and answers the set before it. In a loop
+/// the turns of the block's loops stand at the end of the turns, the last loop's behind the others, and are taken.
 #[cycle(fills)]
 fn fill_block<B: Backward>(
     alloc: Global,
@@ -120,7 +137,7 @@ fn fill_block<B: Backward>(
     Ok(set)
 }
 
-/// The same for a statement. The first walk came to a loop with what no turn of the loops around it had lowered yet, so
+/// The same for a statement. The walk before came to a loop with what no turn of the loops around it had lowered yet, so
 /// the turn that it found serves here.
 #[cycle(fills)]
 fn fill<B: Backward>(
@@ -143,6 +160,7 @@ fn fill<B: Backward>(
             Ok(walk.set_before(alloc, statement, low.as_slice())?)
         }
         Stmt::While { body, .. } => {
+            find_turns(alloc, walk, statement, after, turns)?;
             let once = walk.set_before(alloc, statement, after)?;
             let turn = last_turn(alloc, turns);
             let low = walk.meet(alloc, once.as_slice(), turn.as_slice())?;
@@ -178,8 +196,6 @@ pub fn sets_after<B: Backward>(
     ensures { IfOk result (λ sets. AreMeetsAfter (B.rank walk.now) (B.change walk.now) (tree_of block.now) end.now sets) }
 {
     let mut turns = Vec::new(alloc);
-    enter_block(alloc, walk, block, end, &mut turns)?;
-    turns.reverse();
     let mut sets = Vec::new(alloc);
     fill_block(alloc, walk, block, end, &mut turns, &mut sets)?;
     sets.reverse();
