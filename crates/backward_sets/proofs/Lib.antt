@@ -1,2 +1,3 @@
 mod SetLaws
 mod TurnLaws
+pub mod Callers

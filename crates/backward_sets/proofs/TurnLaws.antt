@@ -35,6 +35,30 @@ module _ (rank : Bool → ℕ) where
       above true = h
       above false = omega arith
 
+  -- where there are none yet, all turns are found
+  none_before : (xs ys : List Bool) → [] ≡ xs ++ ys → xs ≡ []
+  none_before xs ys e = let short = ap length e ∙ length-append xs ys in nil_from_length xs (omega (arith, short))
+
+  pub found_now : (found : Bool → List Bool) (l : Bool) (turns others new : List Bool) → turns ≡ [] → AreTurns rank found l turns others → new ≡ turns ++ found l → AreFound rank found l (reverse new) others
+  found_now found l turns others new none f is = record { first = l; above = omega arith; is = ap reverse (is ∙ ap (λ (bs : List Bool). bs ++ found l) none) ∙ ap (λ (bs : List Bool). bs ++ reverse (found l)) (sym (empty f)) }
+    where
+      empty : AreTurns rank found l turns others → others ≡ []
+      empty (none_yet e o) = o
+      empty (are_found g) = none_before others (reverse (found g.first)) (sym none ∙ g.is)
+
+  -- turns of statements in two parts: those of one part are taken first, and then those of the other
+  pub taken_first : (turns others ones twos : List Bool) → turns ≡ others ++ reverse (ones ++ twos) → turns ≡ (others ++ reverse twos) ++ reverse ones
+  taken_first turns others ones twos e = e ∙ ap (λ (bs : List Bool). others ++ bs) (reverse-append ones twos) ∙ sym (append_assoc others (reverse twos) (reverse ones))
+
+  pub in_parts : (whole ones twos : Bool → List Bool) (between : Bool → Bool) → ((b : Bool) → whole b ≡ ones b ++ twos (between b)) → (l : Bool) (turns others : List Bool) → AreTurns rank whole l turns others →
+      (left : List Bool) × AreTurns rank ones l turns left × ((m : Bool) (taken : List Bool) → taken ≡ left → ((b : Bool) → rank l ≤ rank b → rank m ≤ rank (between b)) → AreTurns rank twos m taken others)
+  in_parts whole ones twos between joined l turns others (none_yet e o) = ([], none_yet e refl, λ m taken is below. none_yet is o)
+  in_parts whole ones twos between joined l turns others (are_found f) =
+      let late = twos (between f.first) in
+      (others ++ reverse late,
+      are_found (record { first = f.first; above = f.above; is = taken_first turns others (ones f.first) late (f.is ∙ ap (λ (bs : List Bool). others ++ reverse bs) (joined f.first)) }),
+      λ m taken is below. are_found (record { first = between f.first; above = below f.first f.above; is = is }))
+
 module _ (rank : Bool → ℕ) (change : ℕ → Head → Bool → Bool) (x : ℕ) where
   turns_of-put : (put : Tree → Tree) (rest : Tree) (l : Bool) → Shape put → turns_of rank change x (put rest) l ≡ turns_of rank change x rest l ++ turns_of rank change x (put Empty) (before_tree rank change x rest l)
   turns_of-put put rest l (plain_shape leaf f) = rw (f rest, f Empty) (sym (append-nil (turns_of rank change x rest l)))
@@ -73,39 +97,6 @@ module _ (rank : Bool → ℕ) (change : ℕ → Head → Bool → Bool) (x : �
         ∙ ap (λ (b : Bool). old ++ change x w (before_tree rank change x (tree_of body) b) ∷ turns_of rank change x (tree_of body) b) k
         ∙ ap (λ (bs : List Bool). old ++ bs) (sym (turns_of-while a body e))
 
-  -- where there are none yet, all turns are found
-  none_before : (xs ys : List Bool) → [] ≡ xs ++ ys → xs ≡ []
-  none_before xs ys e = let short = ap length e ∙ length-append xs ys in nil_from_length xs (omega (arith, short))
-
-  pub found_now : (t : Tree) (l : Bool) (turns others new : List Bool) → turns ≡ [] → AreTurns rank change x t l turns others → new ≡ turns ++ turns_of rank change x t l → AreFound rank change x t l (reverse new) others
-  found_now t l turns others new none f is = record { first = l; above = omega arith; is = ap reverse (is ∙ ap (λ (bs : List Bool). bs ++ turns_of rank change x t l) none) ∙ ap (λ (bs : List Bool). bs ++ reverse (turns_of rank change x t l)) (sym (empty f)) }
-    where
-      empty : AreTurns rank change x t l turns others → others ≡ []
-      empty (none_yet e o) = o
-      empty (are_found g) = none_before others (reverse (turns_of rank change x t g.first)) (sym none ∙ g.is)
-
-  -- the turns of what comes later are taken first
-  taken_first : (turns others ones twos : List Bool) → turns ≡ others ++ reverse (ones ++ twos) → turns ≡ (others ++ reverse twos) ++ reverse ones
-  taken_first turns others ones twos e = e ∙ ap (λ (bs : List Bool). others ++ bs) (reverse-append ones twos) ∙ sym (append_assoc others (reverse twos) (reverse ones))
-
-  -- nothing is found of no statement
-  pub fills_none : (l : Bool) (turns sets : List Bool) → Fills rank change x Empty l turns sets l turns sets
-  fills_none l turns sets others (none_yet e o) = (refl, sym (append-nil sets), e ∙ sym o)
-  fills_none l turns sets others (are_found f) = (refl, sym (append-nil sets), f.is ∙ append-nil others)
-
-  -- turns of a tree of two parts: those of the later part are taken first, and then those of the earlier
-  in_parts : (whole late early : Tree) (before : Bool → Bool) → ((b : Bool) → turns_of rank change x whole b ≡ turns_of rank change x late b ++ turns_of rank change x early (before b)) →
-      (l : Bool) (turns others : List Bool) → AreTurns rank change x whole l turns others →
-      (left : List Bool) × AreTurns rank change x late l turns left × ((m : Bool) (taken : List Bool) → taken ≡ left → ((b : Bool) → rank l ≤ rank b → rank m ≤ rank (before b)) → AreTurns rank change x early m taken others)
-  in_parts whole late early before joined l turns others (none_yet e o) = ([], none_yet e refl, λ m taken is below. none_yet is o)
-  in_parts whole late early before joined l turns others (are_found f) =
-      let ones = turns_of rank change x late f.first in
-      let twos = turns_of rank change x early (before f.first) in (
-        others ++ reverse twos,
-        are_found (record { first = f.first; above = f.above; is = taken_first turns others ones twos (f.is ∙ ap (λ (bs : List Bool). others ++ reverse bs) (joined f.first)) }),
-        λ m taken is below. are_found (record { first = before f.first; above = below f.first f.above; is = is }),
-      )
-
   module _ (keeps : KeepsOrder rank change) where
     before_monotone : (t : Tree) (a b : Bool) → rank a ≤ rank b → rank (before_tree rank change x t a) ≤ rank (before_tree rank change x t b)
     before_monotone t a b h =
@@ -123,7 +114,7 @@ module _ (rank : Bool → ℕ) (change : ℕ → Head → Bool → Bool) (x : �
         let rest = tree_of_all (drop (i + 1) ss) in
         let it = before_rest s Empty in
         let b = before_tree rank change x rest l in
-        let parts = in_parts (tree_of_all (drop i ss)) rest it (before_tree rank change x rest) (λ c. turns_of-drop ss i s c inside is) l turns others told in
+        let parts = in_parts rank (turns_of rank change x (tree_of_all (drop i ss))) (turns_of rank change x rest) (turns_of rank change x it) (before_tree rank change x rest) (λ c. turns_of-drop ss i s c inside is) l turns others told in
         let p = f parts.0 parts.1 in
         let q = g others (parts.2 m turns1 p.2 (λ c h. subst (λ d. rank d ≤ rank (before_tree rank change x rest c)) (sym p.0) (before_monotone rest l c h))) in
         let late = after_sites rank change x rest l in
@@ -141,7 +132,7 @@ module _ (rank : Bool → ℕ) (change : ℕ → Head → Bool → Bool) (x : �
           Fills rank change x (tree_of other) l turns sets no_set turns1 sets1 → Fills rank change x (tree_of one) l turns1 sets1 yes_set turns2 sets2 →
           low ≡ meet Bool rank yes_set no_set → last ≡ sets2 ++ low ∷ [] → new ≡ change x (head_of s) low → Fills rank change x (before_rest s Empty) l turns sets new turns2 last
       fills_if a one other e yes_set no_set low new f g lo el is others told =
-          let parts = in_parts (before_rest s Empty) (tree_of other) (tree_of one) (λ b. b) (λ b. turns_of-if s b a one other e) l turns others told in
+          let parts = in_parts rank (turns_of rank change x (before_rest s Empty)) (turns_of rank change x (tree_of other)) (turns_of rank change x (tree_of one)) (λ b. b) (λ b. turns_of-if s b a one other e) l turns others told in
           let p = f parts.0 parts.1 in
           let q = g others (parts.2 l turns1 p.2 (λ b h. h)) in
           let found = lo ∙ (λ i. meet Bool rank (q.0 i) (p.0 i)) in
@@ -149,7 +140,7 @@ module _ (rank : Bool → ℕ) (change : ℕ → Head → Bool → Bool) (x : �
 
       -- and a `while`
       pub fills_while : (a : Atom) (body : Block) → s ≡ While a body → (told : List Bool) (once turn low again next : Bool) →
-          ((others : List Bool) → AreTurns rank change x (before_rest s Empty) l turns others → AreFound rank change x (before_rest s Empty) l told others) →
+          ((others : List Bool) → AreTurns rank (turns_of rank change x (before_rest s Empty)) l turns others → AreFound rank (turns_of rank change x (before_rest s Empty)) l told others) →
           once ≡ change x (head_of s) l → ((taken : Bool) (more : List Bool) → told ≡ more ++ taken ∷ [] → (turn ≡ taken) × (turns1 ≡ more)) → low ≡ meet Bool rank once turn →
           Fills rank change x (tree_of body) low turns1 sets again turns2 sets1 → next ≡ meet Bool rank l again → last ≡ sets1 ++ next ∷ [] →
           Fills rank change x (before_rest s Empty) l turns sets low turns2 last
@@ -160,7 +151,7 @@ module _ (rank : Bool → ℕ) (change : ℕ → Head → Bool → Bool) (x : �
           let g = find others tell in
           let high = change x w g.first in
           let inner = turns_of rank change x (tree_of body) high in
-          let t = take (around high) (others ++ reverse inner) (taken_first told others (around high ∷ []) inner (g.is ∙ ap (λ (bs : List Bool). others ++ reverse bs) (turns_of-while s g.first a body e))) in
+          let t = take (around high) (others ++ reverse inner) (taken_first rank told others (around high ∷ []) inner (g.is ∙ ap (λ (bs : List Bool). others ++ reverse bs) (turns_of-while s g.first a body e))) in
           let below : rank (change x w l) ≤ rank high = keeps.monotone x (record { site = 0; head = w }) l g.first g.above in
           let known : low ≡ meet Bool rank (change x w l) (around (change x w l)) = lo ∙ (λ i. meet Bool rank (k i) (t.0 i)) ∙ turn_serves rank (change x w l) high around below in
           let found = known ∙ sym (enter_tree-while Bool rank 1 (change x) s a body l e) in

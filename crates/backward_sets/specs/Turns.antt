@@ -17,19 +17,19 @@ turns_of rank change x (WhileThen test body rest) later =
     let once = change x (While test tt) (before_tree rank change x rest later) in
     turns_of rank change x rest later ++ (change x (While test tt) (before_tree rank change x body once) ∷ turns_of rank change x body once)
 
--- turns that end with those of the tree's loops, as a walk found them that was told no less of what is known after it
-pub record AreFound (rank : Bool → ℕ) (change : ℕ → Head → Bool → Bool) (x : ℕ) (tree : Tree) (later : Bool) (turns others : List Bool) : Type 0 where
+-- turns that end with those that a walk found of some statements, to which no less was known than is now
+pub record AreFound (rank : Bool → ℕ) (found : Bool → List Bool) (known : Bool) (turns others : List Bool) : Type 0 where
   pub first : Bool
-  pub above : rank later ≤ rank first
-  pub is : turns ≡ others ++ reverse (turns_of rank change x tree first)
+  pub above : rank known ≤ rank first
+  pub is : turns ≡ others ++ reverse (found first)
 
 -- outside of all loops none has been found yet
-pub data AreTurns (rank : Bool → ℕ) (change : ℕ → Head → Bool → Bool) (x : ℕ) (tree : Tree) (later : Bool) (turns others : List Bool) : Type 0 where
-  none_yet : turns ≡ [] → others ≡ [] → AreTurns rank change x tree later turns others
-  are_found : AreFound rank change x tree later turns others → AreTurns rank change x tree later turns others
+pub data AreTurns (rank : Bool → ℕ) (found : Bool → List Bool) (known : Bool) (turns others : List Bool) : Type 0 where
+  none_yet : turns ≡ [] → others ≡ [] → AreTurns rank found known turns others
+  are_found : AreFound rank found known turns others → AreTurns rank found known turns others
 
 -- what the next walk finds of a tree, before it and in the sets after its sites, and that it takes the tree's turns
 abbrev pub Fills : (Bool → ℕ) → (ℕ → Head → Bool → Bool) → ℕ → Tree → (later : Bool) → (turns sets : List Bool) → (before : Bool) → (left filled : List Bool) → Type 0
 Fills rank change x tree later turns sets before left filled =
-    (others : List Bool) → AreTurns rank change x tree later turns others →
+    (others : List Bool) → AreTurns rank (turns_of rank change x tree) later turns others →
     (before ≡ before_tree rank change x tree later) × (filled ≡ sets ++ reverse (after_sites rank change x tree later)) × (left ≡ others)

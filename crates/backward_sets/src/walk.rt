@@ -94,7 +94,7 @@ fn find_turns<B: Backward>(
     after: &[u32],
     turns: &mut Vec<Set>,
 ) -> Result<(), NoMemory>
-    ensures { OnOk result ((x : ℕ) (others : List Bool) → AreTurns (B.rank walk.now) (B.change walk.now) x (before_rest statement.now Empty) (has x after.now) (column x turns.old.items) others → AreFound (B.rank walk.now) (B.change walk.now) x (before_rest statement.now Empty) (has x after.now) (column x turns.new.items) others) }
+    ensures { OnOk result ((x : ℕ) (others : List Bool) → AreTurns (B.rank walk.now) (turns_of (B.rank walk.now) (B.change walk.now) x (before_rest statement.now Empty)) (has x after.now) (column x turns.old.items) others → AreFound (B.rank walk.now) (turns_of (B.rank walk.now) (B.change walk.now) x (before_rest statement.now Empty)) (has x after.now) (column x turns.new.items) others) }
 {
     if turns.is_empty() {
         enter(alloc, walk, statement, after, turns)?;
