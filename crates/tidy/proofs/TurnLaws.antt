@@ -45,7 +45,7 @@ module _ (r : ℕ) (a : Atom) where
   turns_known-put : (put : Tree → Tree) (rest : Tree) (l : Bool) → Shape put → turns_known r a (put rest) l ≡ turns_known r a (put Empty) l ++ turns_known r a rest (exit_known r a (put Empty) l)
   turns_known-put put rest l (plain_shape leaf f) = rw (f rest, f Empty) refl
   turns_known-put put rest l (if_shape test a b f) = rw (f rest, f Empty) (simp (append-nil, append_assoc))
-  turns_known-put put rest l (while_shape test a f) = rw (f rest, f Empty) (simp (append-nil, append_assoc))
+  turns_known-put put rest l (while_shape test a f) = rw (f rest, f Empty) (simp append-nil)
 
   -- the turns of a list of statements, the first one's first
   pub turns_known-drop : (ss : List Stmt) (i : ℕ) (s : Stmt) (l : Bool) → i < length ss → s ≡ get_or ss i s → turns_known r a (tree_of_all (drop i ss)) l ≡ turns_known r a (before_rest s Empty) l ++ turns_known r a (tree_of_all (drop (i + 1) ss)) (exit_known r a (before_rest s Empty) l)
