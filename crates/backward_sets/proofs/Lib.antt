@@ -1,1 +1,3 @@
 mod SetLaws
+mod TurnLaws
+pub mod Callers

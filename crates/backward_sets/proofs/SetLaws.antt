@@ -19,7 +19,7 @@ use Rattle.backward_sets.specs.Meets.{KeepsOrder, AreMeetsAfter}
 head_of-if : (s : Stmt) (a : Atom) (one other : Block) → s ≡ If a one other → head_of s ≡ open_form.If a tt tt
 head_of-if s a one other e = ap head_of e ∙ ap (map-Stmt Stmt Block (Unit {0}) (Unit {0}) (λ _. tt) (λ _. tt)) (outs-If a one other)
 
-head_of-while : (s : Stmt) (a : Atom) (body : Block) → s ≡ While a body → head_of s ≡ open_form.While a tt
+pub head_of-while : (s : Stmt) (a : Atom) (body : Block) → s ≡ While a body → head_of s ≡ open_form.While a tt
 head_of-while s a body e = ap head_of e ∙ ap (map-Stmt Stmt Block (Unit {0}) (Unit {0}) (λ _. tt) (λ _. tt)) (outs-While a body)
 
 reverse-cons : (b : Bool) (bs : List Bool) → reverse (b ∷ bs) ≡ reverse bs ++ b ∷ []

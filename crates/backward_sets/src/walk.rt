@@ -1,10 +1,12 @@
-//! The sets after all sites, by one walk from the end.
-ghost use Rattle.std.specs.Prelude.{◌≡◌, ℕ, [], ◌∷◌, ◌++◌, Bool, reverse, IfOk, OnOk};
+//! The sets after all sites, by a walk from the end. At a loop that lies in no other a walk goes before it, which finds
+//! what a turn of each loop makes of what is known after it. So no body is walked more than twice.
+ghost use Rattle.std.specs.Prelude.{◌≡◌, ℕ, List, [], ◌∷◌, ◌++◌, Bool, reverse, IfOk, OnOk};
 ghost use Rattle.il_syntax.specs.Statements.{Head, head_of};
 ghost use Rattle.il_paths.specs.Tree.{Empty, tree_of, before_rest};
 ghost use Rattle.path_meets.specs.Walks.{meet};
 ghost use Rattle.location_sets.specs.Sets.{has, column};
 ghost use Rattle.backward_sets.specs.Walk.{before_tree, after_sites};
+ghost use Rattle.backward_sets.specs.Turns.{turns_of, AreFound, AreTurns, Fills};
 ghost use Rattle.backward_sets.specs.Meets.{KeepsOrder, AreMeetsAfter};
 
 use il_syntax::{Block, Stmt};
@@ -30,22 +32,24 @@ pub trait Backward {
         ensures { IfOk result (λ new. (x : ℕ) → has x new ≡ meet Bool (rank self.now) (has x one.now) (has x other.now)) };
 }
 
-/// The set before a block.
+/// The set before a block. Of each loop, what a turn of it makes of the set after it is put to the end of the turns.
 #[cycle(enters)]
 fn enter_block<B: Backward>(
     alloc: Global,
     walk: &B,
     block: &Block,
     after: &[u32],
+    turns: &mut Vec<Set>,
 ) -> Result<Set, NoMemory>
-    ensures { IfOk result (λ new. (x : ℕ) → has x new ≡ before_tree (B.rank walk.now) (B.change walk.now) x (tree_of block.now) (has x after.now)) }
+    ensures before { IfOk result (λ new. (x : ℕ) → has x new ≡ before_tree (B.rank walk.now) (B.change walk.now) x (tree_of block.now) (has x after.now)) }
+    ensures turns { OnOk result ((x : ℕ) → column x turns.new.items ≡ column x turns.old.items ++ turns_of (B.rank walk.now) (B.change walk.now) x (tree_of block.now) (has x after.now)) }
 {
     let mut set = Items::from_slice(alloc, after)?;
     let statements = block.statements.as_slice();
     let mut left = statements.len();
     while left > 0 {
         left -= 1;
-        set = enter(alloc, walk, &statements[left], set.as_slice())?;
+        set = enter(alloc, walk, &statements[left], set.as_slice(), turns)?;
     }
     Ok(set)
 }
@@ -57,71 +61,110 @@ fn enter<B: Backward>(
     walk: &B,
     statement: &Stmt,
     after: &[u32],
+    turns: &mut Vec<Set>,
 ) -> Result<Set, NoMemory>
-    ensures { IfOk result (λ new. (x : ℕ) → has x new ≡ before_tree (B.rank walk.now) (B.change walk.now) x (before_rest statement.now Empty) (has x after.now)) }
+    ensures before { IfOk result (λ new. (x : ℕ) → has x new ≡ before_tree (B.rank walk.now) (B.change walk.now) x (before_rest statement.now Empty) (has x after.now)) }
+    ensures turns { OnOk result ((x : ℕ) → column x turns.new.items ≡ column x turns.old.items ++ turns_of (B.rank walk.now) (B.change walk.now) x (before_rest statement.now Empty) (has x after.now)) }
 {
     match statement {
         Stmt::If { yes, no, .. } => {
-            let one = enter_block(alloc, walk, yes, after)?;
-            let other = enter_block(alloc, walk, no, after)?;
+            let other = enter_block(alloc, walk, no, after, turns)?;
+            let one = enter_block(alloc, walk, yes, after, turns)?;
             let low = walk.meet(alloc, one.as_slice(), other.as_slice())?;
             Ok(walk.set_before(alloc, statement, low.as_slice())?)
         }
         Stmt::While { body, .. } => {
             let once = walk.set_before(alloc, statement, after)?;
-            let turn = enter_block(alloc, walk, body, once.as_slice())?;
+            let mut inner = Vec::new(alloc);
+            let turn = enter_block(alloc, walk, body, once.as_slice(), &mut inner)?;
             let again = walk.set_before(alloc, statement, turn.as_slice())?;
+            push_set(alloc, again.as_slice(), turns)?;
+            turns.append(&mut inner)?;
             Ok(walk.meet(alloc, once.as_slice(), again.as_slice())?)
         }
         _ => Ok(walk.set_before(alloc, statement, after)?),
     }
 }
 
-/// Puts the sets after the sites of a block to the end, the last site's first, and answers the set before it.
+/// Finds the turns of a statement's loops, where none have been found yet.
+fn find_turns<B: Backward>(
+    alloc: Global,
+    walk: &B,
+    statement: &Stmt,
+    after: &[u32],
+    turns: &mut Vec<Set>,
+) -> Result<(), NoMemory>
+    ensures { OnOk result ((x : ℕ) (others : List Bool) → AreTurns (B.rank walk.now) (turns_of (B.rank walk.now) (B.change walk.now) x (before_rest statement.now Empty)) (has x after.now) (column x turns.old.items) others → AreFound (B.rank walk.now) (turns_of (B.rank walk.now) (B.change walk.now) x (before_rest statement.now Empty)) (has x after.now) (column x turns.new.items) others) }
+{
+    if turns.is_empty() {
+        enter(alloc, walk, statement, after, turns)?;
+        turns.reverse();
+    }
+    Ok(())
+}
+
+/// Takes the last of the turns.
+fn last_turn(alloc: Global, turns: &mut Vec<Set>) -> Set
+    ensures { (x : ℕ) (turn : Bool) (more : List Bool) → column x turns.old.items ≡ more ++ turn ∷ [] → (has x result ≡ turn) × (column x turns.new.items ≡ more) }
+{
+    match turns.pop() {
+        Some(turn) => turn,
+        None => Items::new(alloc),
+    }
+}
+
+/// Puts the sets after the sites of a block to the end, the last site's first, and answers the set before it. In a loop
+/// the turns of the block's loops stand at the end of the turns, the last loop's behind the others, and are taken.
 #[cycle(fills)]
 fn fill_block<B: Backward>(
     alloc: Global,
     walk: &B,
     block: &Block,
     after: &[u32],
+    turns: &mut Vec<Set>,
     sets: &mut Vec<Set>,
 ) -> Result<Set, NoMemory>
-    ensures before { IfOk result (λ new. (x : ℕ) → has x new ≡ before_tree (B.rank walk.now) (B.change walk.now) x (tree_of block.now) (has x after.now)) }
-    ensures sets { OnOk result ((x : ℕ) → column x sets.new.items ≡ column x sets.old.items ++ reverse (after_sites (B.rank walk.now) (B.change walk.now) x (tree_of block.now) (has x after.now))) }
+    requires { KeepsOrder (B.rank walk.now) (B.change walk.now) }
+    ensures { IfOk result (λ new. (x : ℕ) → Fills (B.rank walk.now) (B.change walk.now) x (tree_of block.now) (has x after.now) (column x turns.old.items) (column x sets.old.items) (has x new) (column x turns.new.items) (column x sets.new.items)) }
 {
     let mut set = Items::from_slice(alloc, after)?;
     let statements = block.statements.as_slice();
     let mut left = statements.len();
     while left > 0 {
         left -= 1;
-        set = fill(alloc, walk, &statements[left], set.as_slice(), sets)?;
+        set = fill(alloc, walk, &statements[left], set.as_slice(), turns, sets)?;
     }
     Ok(set)
 }
 
-/// The same for a statement.
+/// The same for a statement. The walk before came to a loop with what no turn of the loops around it had lowered yet, so
+/// the turn that it found serves here.
 #[cycle(fills)]
 fn fill<B: Backward>(
     alloc: Global,
     walk: &B,
     statement: &Stmt,
     after: &[u32],
+    turns: &mut Vec<Set>,
     sets: &mut Vec<Set>,
 ) -> Result<Set, NoMemory>
-    ensures before { IfOk result (λ new. (x : ℕ) → has x new ≡ before_tree (B.rank walk.now) (B.change walk.now) x (before_rest statement.now Empty) (has x after.now)) }
-    ensures sets { OnOk result ((x : ℕ) → column x sets.new.items ≡ column x sets.old.items ++ reverse (after_sites (B.rank walk.now) (B.change walk.now) x (before_rest statement.now Empty) (has x after.now))) }
+    requires { KeepsOrder (B.rank walk.now) (B.change walk.now) }
+    ensures { IfOk result (λ new. (x : ℕ) → Fills (B.rank walk.now) (B.change walk.now) x (before_rest statement.now Empty) (has x after.now) (column x turns.old.items) (column x sets.old.items) (has x new) (column x turns.new.items) (column x sets.new.items)) }
 {
     match statement {
         Stmt::If { yes, no, .. } => {
-            let other = fill_block(alloc, walk, no, after, sets)?;
-            let one = fill_block(alloc, walk, yes, after, sets)?;
+            let other = fill_block(alloc, walk, no, after, turns, sets)?;
+            let one = fill_block(alloc, walk, yes, after, turns, sets)?;
             let low = walk.meet(alloc, one.as_slice(), other.as_slice())?;
             push_set(alloc, low.as_slice(), sets)?;
             Ok(walk.set_before(alloc, statement, low.as_slice())?)
         }
         Stmt::While { body, .. } => {
-            let low = enter(alloc, walk, statement, after)?;
-            let again = fill_block(alloc, walk, body, low.as_slice(), sets)?;
+            find_turns(alloc, walk, statement, after, turns)?;
+            let once = walk.set_before(alloc, statement, after)?;
+            let turn = last_turn(alloc, turns);
+            let low = walk.meet(alloc, once.as_slice(), turn.as_slice())?;
+            let again = fill_block(alloc, walk, body, low.as_slice(), turns, sets)?;
             let next = walk.meet(alloc, after, again.as_slice())?;
             push_set(alloc, next.as_slice(), sets)?;
             Ok(low)
@@ -152,8 +195,9 @@ pub fn sets_after<B: Backward>(
     requires { KeepsOrder (B.rank walk.now) (B.change walk.now) }
     ensures { IfOk result (λ sets. AreMeetsAfter (B.rank walk.now) (B.change walk.now) (tree_of block.now) end.now sets) }
 {
+    let mut turns = Vec::new(alloc);
     let mut sets = Vec::new(alloc);
-    fill_block(alloc, walk, block, end, &mut sets)?;
+    fill_block(alloc, walk, block, end, &mut turns, &mut sets)?;
     sets.reverse();
     Ok(Items::from_vec(sets))
 }

@@ -27,15 +27,15 @@ at_column r a [] site = refl
 at_column r a (row ∷ rows) zero = refl
 at_column r a (row ∷ rows) (suc site) = at_column r a rows site
 
+pub known_monotone : (r : ℕ) (a : Atom) (v : Visit) (b c : Bool) → must_rank b ≤ must_rank c → must_rank (known_step r a v b) ≤ must_rank (known_step r a v c)
+known_monotone r a v b c h = steady_or (makes r a v.head) (not (touches r a (gives v.head))) b c h
+
 module _ (f : Function) (r : ℕ) (a : Atom) where
   abbrev start : Bool
   start = known_at_entry f r a
 
   abbrev step : Visit → Bool → Bool
   step = known_step r a
-
-  monotone : (v : Visit) (b c : Bool) → must_rank b ≤ must_rank c → must_rank (step v b) ≤ must_rank (step v c)
-  monotone v b c h = steady_or (makes r a v.head) (not (touches r a (gives v.head))) b c h
 
   -- all paths to a site say yes exactly where the least of them does
   pub before_all : (site : ℕ) (m : Bool) → IsMeetBefore must_rank step start (placed 0 (tree_of f.body)) site m → m ≡ true → IsKnown f site r a
@@ -53,13 +53,13 @@ module _ (f : Function) (r : ℕ) (a : Atom) where
   -- a walk's table, and its end
   pub table_says : (rows : List (List KnownPair)) → known_column r a rows ≡ table_known r a (tree_of f.body) start → (site : ℕ) → site < sites_of (tree_of f.body) → IsMeetBefore must_rank step start (placed 0 (tree_of f.body)) site (known_in (get_or rows site []) r a)
   table_says rows same site h =
-      let least = table_least Bool must_rank 1 step monotone bounded (tree_of f.body) start false site h in
+      let least = table_least Bool must_rank 1 step (known_monotone r a) bounded (tree_of f.body) start false site h in
       let e : get_or (table Bool must_rank 1 step (placed 0 (tree_of f.body)) start) site false ≡ known_in (get_or rows site []) r a = ap (λ (bs : List Bool). get_or bs site false) (table-placed Bool must_rank 1 (known_change r a) (tree_of f.body) 0 start ∙ sym same) ∙ at_column r a rows site in
       subst (λ (b : Bool). IsMeetBefore must_rank step start (placed 0 (tree_of f.body)) site b) e least
 
   pub end_says : (row : List KnownPair) → known_in row r a ≡ exit_known r a (tree_of f.body) start → IsMeetThrough must_rank step start (placed 0 (tree_of f.body)) (known_in row r a)
   end_says row same =
-      let least = exit_least Bool must_rank 1 step monotone bounded (tree_of f.body) start in
+      let least = exit_least Bool must_rank 1 step (known_monotone r a) bounded (tree_of f.body) start in
       subst (λ (b : Bool). IsMeetThrough must_rank step start (placed 0 (tree_of f.body)) b) (exit-placed Bool must_rank 1 (known_change r a) (tree_of f.body) 0 start ∙ sym same) least
 
 pub rows_known : (f : Function) (rows : List (List KnownPair)) → ((r : ℕ) (a : Atom) → known_column r a rows ≡ table_known r a (tree_of f.body) (known_at_entry f r a)) → AreKnownRows f rows

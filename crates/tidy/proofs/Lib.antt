@@ -4,6 +4,7 @@ mod OnRuns
 mod LiveLaws
 mod RowLaws
 mod KnownLaws
+mod TurnLaws
 mod ZeroLaws
 mod Mapped
 mod Cleared

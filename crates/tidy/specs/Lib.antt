@@ -9,5 +9,6 @@ pub mod Laws
 pub mod Programs
 pub mod SameSites
 pub mod Rows
+pub mod Turns
 pub mod Least
 pub mod Decided

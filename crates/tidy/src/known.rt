@@ -1,5 +1,7 @@
-//! What each register is known to hold, before each site and at the end.
-ghost use Rattle.std.specs.Prelude.{◌≡◌, ◌<◌, ◌≤◌, ◌+◌, ℕ, pos, Bool, [], ◌∷◌, ◌++◌, not, ◌&&◌, ◌||◌, nat_le, nat_lt, Some, length, IfOk, OnOk};
+//! What each register is known to hold, before each site and at the end, by a walk from the beginning. At a loop that
+//! lies in no other a walk goes before it, which finds what is known after a turn of each loop. So no body is walked more
+//! than twice.
+ghost use Rattle.std.specs.Prelude.{◌≡◌, ◌<◌, ◌≤◌, ◌+◌, ℕ, pos, Bool, List, [], ◌∷◌, ◌++◌, not, ◌&&◌, ◌||◌, nat_le, nat_lt, Some, length, IfOk, OnOk};
 ghost use Rattle.std.specs.List.{list_any};
 ghost use Rattle.il_syntax.specs.declared.statement.Atom.{Atom};
 ghost use Rattle.il_syntax.specs.declared.statement.Atom.TheVariants.{Const};
@@ -9,6 +11,9 @@ ghost use Rattle.il_paths.specs.Atoms.{atoms_equal};
 ghost use Rattle.il_paths.specs.Tree.{Empty, tree_of, before_rest};
 ghost use Rattle.tidy.specs.Known.{known_change, known_at_entry, touches};
 ghost use Rattle.tidy.specs.Rows.{is_pair, known_in, known_column, exit_known, table_known, AreKnownRows, IsLastRow};
+ghost use Rattle.path_meets.specs.Chain.{must_rank};
+ghost use Rattle.backward_sets.specs.Turns.{AreFound, AreTurns};
+ghost use Rattle.tidy.specs.Turns.{turns_known, FillsRows};
 
 use crate::atoms::{are_equal, register_given};
 use il_syntax::{Atom, Block, Function, Stmt};
@@ -135,36 +140,78 @@ fn row_after(alloc: Global, statement: &Stmt, row: Row) -> Result<Row, NoMemory>
     }
 }
 
-/// What is known after a block.
+/// What is known after a block. Of each loop, what is known after a turn of it is put to the end of the turns.
 #[cycle(exits)]
-fn exit_block(alloc: Global, block: &Block, row: Row) -> Result<Row, NoMemory>
-    ensures { IfOk result (λ new. (r : ℕ) (a : Atom) → known_in new r a ≡ exit_known r a (tree_of block.now) (known_in row r a)) }
+fn exit_block(
+    alloc: Global,
+    block: &Block,
+    row: Row,
+    turns: &mut Vec<Row>,
+) -> Result<Row, NoMemory>
+    ensures after { IfOk result (λ new. (r : ℕ) (a : Atom) → known_in new r a ≡ exit_known r a (tree_of block.now) (known_in row r a)) }
+    ensures turns { OnOk result ((r : ℕ) (a : Atom) → known_column r a turns.new.items ≡ known_column r a turns.old.items ++ turns_known r a (tree_of block.now) (known_in row r a)) }
 {
     let mut known = row;
     for statement in block.statements.as_slice() {
-        known = exit(alloc, statement, known)?;
+        known = exit(alloc, statement, known, turns)?;
     }
     Ok(known)
 }
 
 /// The same for a statement. One turn of a loop is enough: a pair that a turn loses is lost.
 #[cycle(exits)]
-fn exit(alloc: Global, statement: &Stmt, row: Row) -> Result<Row, NoMemory>
-    ensures { IfOk result (λ new. (r : ℕ) (a : Atom) → known_in new r a ≡ exit_known r a (before_rest statement.now Empty) (known_in row r a)) }
+fn exit(
+    alloc: Global,
+    statement: &Stmt,
+    row: Row,
+    turns: &mut Vec<Row>,
+) -> Result<Row, NoMemory>
+    ensures after { IfOk result (λ new. (r : ℕ) (a : Atom) → known_in new r a ≡ exit_known r a (before_rest statement.now Empty) (known_in row r a)) }
+    ensures turns { OnOk result ((r : ℕ) (a : Atom) → known_column r a turns.new.items ≡ known_column r a turns.old.items ++ turns_known r a (before_rest statement.now Empty) (known_in row r a)) }
 {
     match statement {
         Stmt::If { yes, no, .. } => {
             let copy = copy_row(alloc, row.as_slice())?;
-            let one = exit_block(alloc, yes, copy)?;
-            let other = exit_block(alloc, no, row)?;
+            let one = exit_block(alloc, yes, copy, turns)?;
+            let other = exit_block(alloc, no, row, turns)?;
             Ok(meet_rows(alloc, one.as_slice(), other.as_slice())?)
         }
         Stmt::While { body, .. } => {
             let copy = copy_row(alloc, row.as_slice())?;
-            let turn = exit_block(alloc, body, copy)?;
+            let mut inner = Vec::new(alloc);
+            let turn = exit_block(alloc, body, copy, &mut inner)?;
+            push_row(alloc, turn.as_slice(), turns)?;
+            turns.append(&mut inner)?;
             Ok(meet_rows(alloc, row.as_slice(), turn.as_slice())?)
         }
         _ => Ok(row_after(alloc, statement, row)?),
+    }
+}
+
+/// Finds the turns of a statement's loops, where none have been found yet.
+fn find_turns(
+    alloc: Global,
+    statement: &Stmt,
+    row: &[KnownPair],
+    turns: &mut Vec<Row>,
+) -> Result<(), NoMemory>
+    ensures { OnOk result ((r : ℕ) (a : Atom) (others : List Bool) → AreTurns must_rank (turns_known r a (before_rest statement.now Empty)) (known_in row.now r a) (known_column r a turns.old.items) others → AreFound must_rank (turns_known r a (before_rest statement.now Empty)) (known_in row.now r a) (known_column r a turns.new.items) others) }
+{
+    if turns.is_empty() {
+        let copy = copy_row(alloc, row)?;
+        exit(alloc, statement, copy, turns)?;
+        turns.reverse();
+    }
+    Ok(())
+}
+
+/// Takes the last of the turns.
+fn last_turn(alloc: Global, turns: &mut Vec<Row>) -> Row
+    ensures { (r : ℕ) (a : Atom) (turn : Bool) (more : List Bool) → known_column r a turns.old.items ≡ more ++ turn ∷ [] → (known_in result r a ≡ turn) × (known_column r a turns.new.items ≡ more) }
+{
+    match turns.pop() {
+        Some(turn) => turn,
+        None => Items::new(alloc),
     }
 }
 
@@ -176,38 +223,52 @@ fn push_row(alloc: Global, row: &[KnownPair], rows: &mut Vec<Row>) -> Result<(),
     Ok(())
 }
 
-/// Puts the rows before the sites of a block to the end, and answers what is known after it.
+/// Puts the rows before the sites of a block to the end, and answers what is known after it. In a loop the turns of the
+/// block's loops stand at the end of the turns, the first loop's behind the others, and are taken.
 #[cycle(fills)]
-fn fill_block(alloc: Global, block: &Block, row: Row, rows: &mut Vec<Row>) -> Result<Row, NoMemory>
-    ensures after { IfOk result (λ new. (r : ℕ) (a : Atom) → known_in new r a ≡ exit_known r a (tree_of block.now) (known_in row r a)) }
-    ensures rows { OnOk result ((r : ℕ) (a : Atom) → known_column r a rows.new.items ≡ known_column r a rows.old.items ++ table_known r a (tree_of block.now) (known_in row r a)) }
+fn fill_block(
+    alloc: Global,
+    block: &Block,
+    row: Row,
+    turns: &mut Vec<Row>,
+    rows: &mut Vec<Row>,
+) -> Result<Row, NoMemory>
+    ensures { IfOk result (λ new. (r : ℕ) (a : Atom) → FillsRows r a (tree_of block.now) (known_in row r a) (known_column r a turns.old.items) (known_column r a rows.old.items) (known_in new r a) (known_column r a turns.new.items) (known_column r a rows.new.items)) }
 {
     let mut known = row;
     for statement in block.statements.as_slice() {
-        known = fill(alloc, statement, known, rows)?;
+        known = fill(alloc, statement, known, turns, rows)?;
     }
     Ok(known)
 }
 
-/// The same for a statement.
+/// The same for a statement. The walk before came to a loop with what no turn of the loops around it had lost yet, so the
+/// turn that it found serves here.
 #[cycle(fills)]
-fn fill(alloc: Global, statement: &Stmt, row: Row, rows: &mut Vec<Row>) -> Result<Row, NoMemory>
-    ensures after { IfOk result (λ new. (r : ℕ) (a : Atom) → known_in new r a ≡ exit_known r a (before_rest statement.now Empty) (known_in row r a)) }
-    ensures rows { OnOk result ((r : ℕ) (a : Atom) → known_column r a rows.new.items ≡ known_column r a rows.old.items ++ table_known r a (before_rest statement.now Empty) (known_in row r a)) }
+fn fill(
+    alloc: Global,
+    statement: &Stmt,
+    row: Row,
+    turns: &mut Vec<Row>,
+    rows: &mut Vec<Row>,
+) -> Result<Row, NoMemory>
+    ensures { IfOk result (λ new. (r : ℕ) (a : Atom) → FillsRows r a (before_rest statement.now Empty) (known_in row r a) (known_column r a turns.old.items) (known_column r a rows.old.items) (known_in new r a) (known_column r a turns.new.items) (known_column r a rows.new.items)) }
 {
     match statement {
         Stmt::If { yes, no, .. } => {
             push_row(alloc, row.as_slice(), rows)?;
             let copy = copy_row(alloc, row.as_slice())?;
-            let one = fill_block(alloc, yes, copy, rows)?;
-            let other = fill_block(alloc, no, row, rows)?;
+            let one = fill_block(alloc, yes, copy, turns, rows)?;
+            let other = fill_block(alloc, no, row, turns, rows)?;
             Ok(meet_rows(alloc, one.as_slice(), other.as_slice())?)
         }
         Stmt::While { body, .. } => {
-            let low = exit(alloc, statement, row)?;
+            find_turns(alloc, statement, row.as_slice(), turns)?;
+            let turn = last_turn(alloc, turns);
+            let low = meet_rows(alloc, row.as_slice(), turn.as_slice())?;
             push_row(alloc, low.as_slice(), rows)?;
             let copy = copy_row(alloc, low.as_slice())?;
-            fill_block(alloc, body, copy, rows)?;
+            fill_block(alloc, body, copy, turns, rows)?;
             Ok(low)
         }
         _ => {
@@ -249,8 +310,9 @@ pub(crate) fn known_rows(alloc: Global, f: &Function) -> Result<KnownRows, NoMem
     ensures end { IfOk result (λ known. IsLastRow f.now known.end) }
 {
     let entry = zeros(alloc, f.params, f.registers.as_slice().len() as u32)?;
+    let mut turns = Vec::new(alloc);
     let mut rows = Vec::new(alloc);
-    let end = fill_block(alloc, &f.body, entry, &mut rows)?;
+    let end = fill_block(alloc, &f.body, entry, &mut turns, &mut rows)?;
     Ok(KnownRows {
         rows: Items::from_vec(rows),
         end,

@@ -1,9 +1,10 @@
-use Rattle.std.proofs.Common.{◌≡◌, ℕ, pos, leb, ltb, Bool, true, false, ◌&&◌, List, ◌++◌, length, refl, ap, ◌∙◌}
+use Rattle.std.proofs.Common.{◌≡◌, ℕ, pos, leb, ltb, Bool, true, false, ◌&&◌, List, [], ◌++◌, length, refl, ap, ◌∙◌}
 use Rattle.il_syntax.specs.declared.statement.Atom.{Atom}
 use Rattle.il_syntax.specs.declared.statement.Atom.TheVariants.{Const, Reg}
 use Rattle.il_syntax.specs.declared.program.Function.{Function}
 use Rattle.il_paths.specs.Tree.{tree_of}
 use Rattle.il_paths.specs.Atoms.{atoms_equal}
+use Rattle.backward_sets.specs.Turns.{none_yet}
 use Rattle.tidy.specs.Known.{known_at_entry}
 use Rattle.tidy.specs.Rows.{known_column, exit_known, table_known}
 use Rattle.tidy.proofs.KnownLaws.{rows_known, end_known}
@@ -23,11 +24,13 @@ returns-clause-rows c =
     let f = c.args.f.now in
     rows_known f c.from_vec.result (λ r a.
     let entry = c.in_ok-entry.ensures r a ∙ ap (λ (names : List (List ℕ)). leb f.params r && (ltb r (length names) && atoms_equal a (Const (pos 0)))) c.as_slice.ensures ∙ entry_at f r a in
-    ap (known_column r a) c.from_vec.ensures ∙ c.in_ok-end.ensures.rows r a ∙ (λ i. known_column r a (c.new-rows.ensures.items i) ++ table_known r a (tree_of f.body) (entry i)))
+    let filled = c.in_ok-end.ensures r a [] (none_yet (ap (known_column r a) c.new-turns.ensures.items) refl) in
+    ap (known_column r a) c.from_vec.ensures ∙ filled.1 ∙ (λ i. known_column r a (c.new-rows.ensures.items i) ++ table_known r a (tree_of f.body) (entry i)))
 
 pub returns-clause-end : goal.returns-clause-end
 returns-clause-end c =
     let f = c.args.f.now in
     end_known f c.in_ok-end.end (λ r a.
     let entry = c.in_ok-entry.ensures r a ∙ ap (λ (names : List (List ℕ)). leb f.params r && (ltb r (length names) && atoms_equal a (Const (pos 0)))) c.as_slice.ensures ∙ entry_at f r a in
-    c.in_ok-end.ensures.after r a ∙ ap (exit_known r a (tree_of f.body)) entry)
+    let filled = c.in_ok-end.ensures r a [] (none_yet (ap (known_column r a) c.new-turns.ensures.items) refl) in
+    filled.0 ∙ ap (exit_known r a (tree_of f.body)) entry)
