@@ -19,6 +19,14 @@ use Rattle.outcome_moves.specs.declared.moves.Move.{Move}
 abbrev pub last_state : Program → List Entry → State
 last_state p entries = state_after p (initial_state p) entries
 
+-- the state in which the entries end, but for the locals of the threads before thread i
+pub record StandsFrom (p : Program) (entries : List Entry) (i : ℕ) (s : State) : Type 0 where
+  pub memory : s.memory ≡ (last_state p entries).memory
+  pub views : s.views ≡ (last_state p entries).views
+  pub ended : s.ended ≡ (last_state p entries).ended
+  pub threads : length s.locals ≡ length (last_state p entries).locals
+  pub locals : (j : ℕ) → i ≤ j → local_in s j ≡ local_in (last_state p entries) j
+
 -- the silent steps that a thread makes there, up to its next access or the end of its budget
 abbrev pub silent_there : Program → ℕ → List Entry → ℕ → ℕ
 silent_there p steps entries i = silent_steps p (steps - used_steps entries i) (local_in (last_state p entries) i)

@@ -1,17 +1,17 @@
 //! All moves from where a run ends.
-ghost use Rattle.std.specs.Prelude.{◌≡◌, ℕ, ◌^◌, ◌<◌, ◌≤◌, true, Some, IfOk, OnOk, IfSome, length};
+ghost use Rattle.std.specs.Prelude.{◌≡◌, ℕ, ◌+◌, ◌^◌, ◌<◌, ◌≤◌, true, Some, IfOk, OnOk, IfSome, length};
 ghost use Rattle.std.specs.List.{AllByRecursion};
 ghost use Rattle.values_undef.specs.Access.{leaves_choice};
 ghost use Rattle.thread_core.specs.Programs.{IsProperProgram, IsProperAccess};
-ghost use Rattle.view_machine.specs.Held.{IsOf};
+ghost use Rattle.view_machine.specs.Held.{state_in, IsOf};
 ghost use Rattle.outcome_nodes.specs.Nodes.{Asks, IsMove};
 ghost use Rattle.outcome_nodes.specs.Standing.{node_of, IsNodeRun};
 ghost use Rattle.outcome_moves.specs.Room.{AreSmall};
 ghost use Rattle.outcome_moves.specs.Ends.{end_in};
-ghost use Rattle.outcome_moves.specs.Moves.{last_state, silent_there, HasMove, HasMovesOf, GrowsBy, IsSomeMove, IsSmallMove};
+ghost use Rattle.outcome_moves.specs.Moves.{last_state, silent_there, HasMove, HasMovesOf, GrowsBy, IsSomeMove, IsSmallMove, StandsFrom};
 
-use crate::moves::{Move, end_in, location_of, only_move, try_move};
-use crate::standing::{What, stand_at};
+use crate::moves::{Move, alone_move, end_in, location_of, only_move, try_move};
+use crate::standing::{What, settle, stand, stand_at};
 use il_syntax::Program;
 use message_memory::PlainMemory;
 use std::alloc::Global;
@@ -129,8 +129,8 @@ fn add_moves_at(
     Ok(())
 }
 
-/// Adds the moves of a thread.
-fn add_moves(
+/// Adds the moves of a thread, on a machine of its own.
+fn add_moves_alone(
     alloc: Global,
     p: &Program,
     steps: u64,
@@ -161,6 +161,46 @@ fn add_moves(
     )
 }
 
+/// Adds the moves of a thread. The machine stands where the run ends but for the threads before this one, and then but for
+/// this one too.
+fn add_moves(
+    alloc: Global,
+    p: &Program,
+    steps: u64,
+    entries: &[Entry],
+    machine: &mut Machine<PlainMemory>,
+    thread: u32,
+    moves: &mut Vec<Move>,
+) -> Result<(), NoMemory>
+    requires proper { IsProperProgram p.now }
+    requires run { IsNodeRun p.now steps entries.now }
+    requires few { length entries.now < 2 ^ 32 }
+    requires steps { steps < 2 ^ 32 }
+    requires small { AreSmall (2 ^ 60) entries.now }
+    requires there { thread < length p.now.threads }
+    requires program { IsOf p.now machine.old }
+    requires stands { StandsFrom p.now entries.now thread (state_in p.now machine.old) }
+    ensures grows { OnOk result (GrowsBy p.now steps (node_of p.now steps entries.now) entries.now moves.old.items moves.new.items) }
+    ensures all { OnOk result (HasMovesOf p.now steps (node_of p.now steps entries.now) moves.new.items thread) }
+    ensures stands { StandsFrom p.now entries.now (thread + 1) (state_in p.now machine.new) }
+    ensures program { IsOf p.now machine.new }
+{
+    let (silent, what) = settle(machine, p, steps, entries, thread);
+    let What::Asks { a } = what else {
+        return Ok(());
+    };
+    if a.leaves_choice() {
+        return add_moves_at(
+            alloc, p, steps, entries, machine, thread, silent, &a, moves,
+        );
+    }
+    if let Some(m) = alone_move(alloc, p, steps, entries, thread, silent, &a)? {
+        moves.push(m)?;
+        return Ok(());
+    }
+    add_moves_alone(alloc, p, steps, entries, thread, moves)
+}
+
 /// The moves of so many threads.
 fn moves_by(
     alloc: Global,
@@ -179,9 +219,18 @@ fn moves_by(
     ensures only { IfOk result (λ moves. AllByRecursion (IsSomeMove p.now steps (node_of p.now steps entries.now)) moves.items) }
     ensures small { IfOk result (λ moves. AllByRecursion (IsSmallMove entries.now) moves.items) }
 {
+    let mut machine = stand(alloc, p, entries)?;
     let mut moves = Vec::new(alloc);
     for thread in 0..threads {
-        add_moves(alloc, p, steps, entries, thread, &mut moves)?;
+        add_moves(
+            alloc,
+            p,
+            steps,
+            entries,
+            &mut machine,
+            thread,
+            &mut moves,
+        )?;
     }
     Ok(moves)
 }

@@ -17,4 +17,4 @@ pub use all::moves_of;
 pub use ending::ended_run;
 pub use moves::{Move, end_in};
 pub use room::moved_entries;
-pub use standing::{What, next_there, stand};
+pub use standing::stand;

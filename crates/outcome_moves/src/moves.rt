@@ -1,11 +1,12 @@
 //! The accesses that a thread may make where a run ends, each with the run that it leads to.
-ghost use Rattle.std.specs.Prelude.{◌≡◌, ◌+◌, ◌^◌, ◌<◌, ◌≤◌, true, false, None, [], ◌∷◌, ◌++◌, if◌then◌else◌, IfOk, IsNone, IsSome, IfSome, length, map};
+ghost use Rattle.std.specs.Prelude.{◌≡◌, ℕ, ◌+◌, ◌^◌, ◌<◌, ◌≤◌, true, false, None, [], ◌∷◌, ◌++◌, if◌then◌else◌, IfOk, IsNone, IsSome, IfSome, length, map};
 ghost use Rattle.values_undef.specs.Access.{leaves_choice, is_failure};
 ghost use Rattle.memory_likeness.specs.Answering.{puts_in};
 ghost use Rattle.memory_likeness.specs.Moved.{opened};
 ghost use Rattle.message_memory.specs.Memory.{Memory, messages, message_at, IsWellFormedMemory};
 ghost use Rattle.message_memory.specs.Candidates.{location_of};
-ghost use Rattle.message_memory.specs.Step.{IsProper, succeeds};
+ghost use Rattle.views.specs.ThreadView.{ThreadView};
+ghost use Rattle.message_memory.specs.Step.{IsProper, succeeds, step_result};
 ghost use Rattle.thread_core.specs.Programs.{IsProperProgram, IsProperAccess};
 ghost use Rattle.view_machine.specs.State.{next_in};
 ghost use Rattle.view_machine.specs.Held.{state_in, IsOf};
@@ -251,6 +252,57 @@ pub fn only_move(
     };
     let made = run_with(alloc, entries, a, 0, false, entry)?;
     Ok(made)
+}
+
+/// The event of an access that touches no location and ends no thread, whatever the memory. `None` comes for each other.
+fn event_alone(a: &Access) -> Option<Event>
+    ensures some { IfSome result (λ e. (leaves_choice a.now ≡ false) × ((m : Memory) (v : ThreadView) (i : ℕ) → e ≡ (step_result m v i a.now Choice.Plain).event)) }
+{
+    match *a {
+        Access::Fence { order } => Some(Event::Fence { order }),
+        Access::Print { v } => Some(Event::Print { v }),
+        Access::Fail { cause } => Some(Event::Fail { cause }),
+        Access::NaRead { .. }
+        | Access::NaWrite { .. }
+        | Access::Read { .. }
+        | Access::Write { .. }
+        | Access::Update { .. }
+        | Access::Finish
+        | Access::Spend => None,
+    }
+}
+
+/// The run that goes on by the access of a thread that touches no location, after its silent steps. `None` comes for each other
+/// access.
+pub fn alone_move(
+    alloc: Global,
+    _p: &Program,
+    _steps: u64,
+    entries: &[Entry],
+    thread: u32,
+    silent: u64,
+    a: &Access,
+) -> Result<Option<Move>, NoMemory>
+    requires proper { IsProperProgram _p.now }
+    requires run { IsNodeRun _p.now _steps entries.now }
+    requires small { AreSmall (2 ^ 60) entries.now }
+    requires there { thread < length _p.now.threads }
+    requires silent { silent ≡ silent_there _p.now _steps entries.now thread }
+    requires asks { Asks _steps (node_of _p.now _steps entries.now) thread a.now }
+    requires named { IsProperAccess _p.now a.now }
+    ensures made { IfOk result (λ r. IfSome r (λ m. (leaves_choice a.now ≡ false) × IsMove (node_of _p.now _steps entries.now) thread a.now 0 × IsMoved _p.now _steps (node_of _p.now _steps entries.now) thread a.now 0 m)) }
+    ensures small { IfOk result (λ r. IfSome r (λ m. IsSmallMove entries.now m)) }
+{
+    let Some(event) = event_alone(a) else {
+        return Ok(None);
+    };
+    let entry = Entry {
+        thread,
+        silent,
+        event,
+    };
+    let made = run_with(alloc, entries, a, 0, false, entry)?;
+    Ok(Some(made))
 }
 
 /// Where the message of location `y` ends that the entry put in.

@@ -9,7 +9,7 @@ ghost use Rattle.view_machine.specs.State.{next_in, initial_state};
 ghost use Rattle.view_machine.specs.Runs.{IsEntry, after_entry, IsJournalRun, state_after};
 ghost use Rattle.view_machine.specs.Held.{state_in, IsOf, HasRoom};
 ghost use Rattle.outcome_nodes.specs.Standing.{IsNodeRun};
-ghost use Rattle.outcome_moves.specs.Moves.{last_state, silent_there, IsWhat};
+ghost use Rattle.outcome_moves.specs.Moves.{last_state, silent_there, IsWhat, StandsFrom};
 
 use il_syntax::Program;
 use message_memory::PlainMemory;
@@ -114,6 +114,33 @@ fn what_next(next: Next, left: bool) -> What
     }
 }
 
+/// The silent steps that a thread makes from where the run ends, with their number and what the thread does after them. The
+/// machine stands there but for the threads before this one, and then but for this one too.
+pub fn settle(
+    machine: &mut Machine<PlainMemory>,
+    p: &Program,
+    steps: u64,
+    entries: &[Entry],
+    thread: u32,
+) -> (u64, What)
+    requires proper { IsProperProgram p.now }
+    requires run { IsNodeRun p.now steps entries.now }
+    requires steps { steps < 2 ^ 32 }
+    requires there { thread < length p.now.threads }
+    requires program { IsOf p.now machine.old }
+    requires stands { StandsFrom p.now entries.now thread (state_in p.now machine.old) }
+    ensures silent { result.0 ≡ silent_there p.now steps entries.now thread }
+    ensures what { IsWhat p.now steps entries.now thread result.1 }
+    ensures next { (a : TheAccess) → result.1 ≡ What.Asks a → next_in (state_in p.now machine.new) thread ≡ Next.Access a }
+    ensures stands { StandsFrom p.now entries.now (thread + 1) (state_in p.now machine.new) }
+    ensures program { IsOf p.now machine.new }
+    ensures room { machine.new.spare ≡ machine.old.spare }
+{
+    let left = steps - used_by(entries, thread);
+    let (silent, next) = machine.run_to(p, thread, left);
+    (silent, what_next(next, silent < left))
+}
+
 /// The machine where the run ends, after the silent steps that a thread makes there, with their number and what the thread
 /// does after them.
 pub fn stand_at(
@@ -137,28 +164,6 @@ pub fn stand_at(
     ensures room { IfOk result (λ r. 1 ≤ r.0.spare) }
 {
     let mut machine = stand(alloc, p, entries)?;
-    let left = steps - used_by(entries, thread);
-    let (silent, next) = machine.run_to(p, thread, left);
-    let what = what_next(next, silent < left);
+    let (silent, what) = settle(&mut machine, p, steps, entries, thread);
     Ok((machine, silent, what))
-}
-
-/// The silent steps that a thread makes where the run ends, and what it does after them.
-pub fn next_there(
-    alloc: Global,
-    p: &Program,
-    steps: u64,
-    entries: &[Entry],
-    thread: u32,
-) -> Result<(u64, What), NoMemory>
-    requires proper { IsProperProgram p.now }
-    requires run { IsNodeRun p.now steps entries.now }
-    requires few { length entries.now < 2 ^ 32 }
-    requires steps { steps < 2 ^ 32 }
-    requires there { thread < length p.now.threads }
-    ensures silent { IfOk result (λ r. r.0 ≡ silent_there p.now steps entries.now thread) }
-    ensures what { IfOk result (λ r. IsWhat p.now steps entries.now thread r.1) }
-{
-    let (_machine, silent, what) = stand_at(alloc, p, steps, entries, thread)?;
-    Ok((silent, what))
 }

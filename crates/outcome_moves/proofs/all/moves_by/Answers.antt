@@ -3,8 +3,14 @@ use Rattle.std.specs.List.{AllByRecursion}
 use Rattle.std.proofs.lemmas.Bool.{cases_eq}
 use Rattle.outcome_nodes.specs.Standing.{node_of}
 use Rattle.outcome_moves.specs.Moves.{HasMovesOf, IsSomeMove, IsSmallMove}
-use Rattle.outcome_moves.proofs.Growing.{grows_then, has_more}
+use Rattle.view_machine.specs.Held.{state_in}
+use Rattle.outcome_moves.proofs.Making.{none_spends}
+use Rattle.outcome_moves.proofs.There.{from_anywhere}
+use Rattle.outcome_moves.proofs.Growing.{grows_none, grows_then, has_more}
 use Rattle.outcome_moves.proofs.all.moves_by.Goals as goal
+
+pub stand-requires-clause-unspent : goal.stand-requires-clause-unspent
+stand-requires-clause-unspent c = none_spends c.args.entries.now c.requires.run.stands.unspent
 
 pub loop-thread-preserved : goal.loop-thread-preserved
 loop-thread-preserved c =
@@ -21,6 +27,8 @@ loop-thread-preserved c =
           (λ (e : i ≡ c.loop-thread.thread). subst (HasMovesOf p c.args.steps n new) (sym e) a.all)
           (λ (e : i ≡ c.loop-thread.thread → ⊥). λ x b asks move. has_more p c.args.steps n c.args.entries.now old new i x b a.grows (h.all i (omega (arith, l, e)) x b asks move))
           (cases_eq i c.loop-thread.thread);
+      stands = a.stands;
+      program = a.program;
     }
 
 pub returns-clause-all : goal.returns-clause-all

@@ -4,8 +4,14 @@ use Rattle.outcome_nodes.specs.Reached.{IsEndedRun}
 use Rattle.outcome_nodes.specs.Standing.{node_of, last_entry, with_last_entries}
 use Rattle.outcome_nodes.proofs.Callers.{ended_with}
 use Rattle.outcome_moves.specs.Moves.{last_state}
+use Rattle.view_machine.specs.Held.{state_in}
+use Rattle.outcome_moves.proofs.Making.{none_spends}
+use Rattle.outcome_moves.proofs.There.{from_anywhere}
 use Rattle.outcome_moves.proofs.Closing.{many_last, one_last, one_more}
 use Rattle.outcome_moves.proofs.ending.ended_run.Goals as goal
+
+pub stand-requires-clause-unspent : goal.stand-requires-clause-unspent
+stand-requires-clause-unspent c = none_spends c.args.entries.now c.requires.run.stands.unspent
 
 pub loop-thread-preserved : goal.loop-thread-preserved
 loop-thread-preserved c =
@@ -17,6 +23,8 @@ loop-thread-preserved c =
     record {
       after = one_last p c.args.steps c.args.entries.now s c.loop-thread.thread c.loop-thread.after.items c.push.new.self.items c.in-Some.entry c.loop-thread.invariant.after told.0 c.in_ok-push.ensures.items;
       ends = one_more (λ (j : ℕ). IsFinished n j ⊎ IsSpent c.args.steps n j) c.loop-thread.thread c.loop-thread.invariant.ends told.1;
+      stands = c.last_entry.ensures.stands;
+      program = c.last_entry.ensures.program;
     }
 
 pub returns-in_default-clause-none : goal.returns-in_default-clause-none
