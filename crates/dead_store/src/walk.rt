@@ -1,4 +1,4 @@
-//! Which locations are overwritten before they are needed, all at once, by one walk from the end.
+//! Which locations are overwritten before they are needed, all at once, by a walk from the end.
 ghost use Rattle.std.specs.Prelude.{IfOk};
 ghost use Rattle.il_paths.specs.Tree.{tree_of};
 ghost use Rattle.dead_store.specs.Overwritten.{AreOverwritten};

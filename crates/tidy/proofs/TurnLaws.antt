@@ -94,11 +94,12 @@ module _ (r : ℕ) (a : Atom) where
       let it = before_rest s Empty in
       let parts = in_parts must_rank (turns_known r a (tree_of_all (drop i ss))) (turns_known r a it) (turns_known r a rest) (exit_known r a it) (λ c. turns_known-drop ss i s c inside is) l turns others told in
       let p = f parts.0 parts.1 in
-      let q = g others (parts.2 m turns1 p.2 (λ c h. subst (λ d. must_rank d ≤ must_rank (exit_known r a it c)) (sym p.0) (exit_monotone_known it l c h))) in
-      (q.0 ∙ ap (exit_known r a rest) p.0 ∙ sym (exit_tree-drop Bool must_rank 1 (known_change r a) ss i s l inside is),
-      q.1 ∙ (λ j. p.1 j ++ table_known r a rest (p.0 j)) ∙ append_assoc rows (table_known r a it l) (table_known r a rest (exit_known r a it l))
-      ∙ ap (λ (bs : List Bool). rows ++ bs) (sym (table_tree-drop Bool must_rank 1 (known_change r a) ss i s l inside is)),
-      q.2)
+      let q = g others (parts.2 m turns1 p.2 (λ c h. subst (λ d. must_rank d ≤ must_rank (exit_known r a it c)) (sym p.0) (exit_monotone_known it l c h))) in (
+        q.0 ∙ ap (exit_known r a rest) p.0 ∙ sym (exit_tree-drop Bool must_rank 1 (known_change r a) ss i s l inside is),
+        q.1 ∙ (λ j. p.1 j ++ table_known r a rest (p.0 j)) ∙ append_assoc rows (table_known r a it l) (table_known r a rest (exit_known r a it l))
+            ∙ ap (λ (bs : List Bool). rows ++ bs) (sym (table_tree-drop Bool must_rank 1 (known_change r a) ss i s l inside is)),
+        q.2,
+      )
 
   module _ (s : Stmt) (l : Bool) (turns turns1 turns2 rows rows1 rows2 last : List Bool) where
     -- an `if`
@@ -110,11 +111,12 @@ module _ (r : ℕ) (a : Atom) where
         let p = f parts.0 parts.1 in
         let q = g others (parts.2 l turns1 p.2 (λ b h. h)) in
         let ys = table_known r a (tree_of one) l in
-        let ns = table_known r a (tree_of other) l in
-        (is ∙ (λ i. p.0 i && q.0 i) ∙ sym (both (exit_known r a (tree_of one) l) (exit_known r a (tree_of other) l)) ∙ sym (exit_tree-if Bool must_rank 1 (known_change r a) s c one other l e),
-        q.1 ∙ ap (λ (bs : List Bool). bs ++ ns) (p.1 ∙ ap (λ (bs : List Bool). bs ++ ys) pushed) ∙ append_assoc (rows ++ l ∷ []) ys ns ∙ append_assoc rows (l ∷ []) (ys ++ ns)
-        ∙ ap (λ (bs : List Bool). rows ++ bs) (sym (table_tree-if Bool must_rank 1 (known_change r a) s c one other l e)),
-        q.2)
+        let ns = table_known r a (tree_of other) l in (
+          is ∙ (λ i. p.0 i && q.0 i) ∙ sym (both (exit_known r a (tree_of one) l) (exit_known r a (tree_of other) l)) ∙ sym (exit_tree-if Bool must_rank 1 (known_change r a) s c one other l e),
+          q.1 ∙ ap (λ (bs : List Bool). bs ++ ns) (p.1 ∙ ap (λ (bs : List Bool). bs ++ ys) pushed) ∙ append_assoc (rows ++ l ∷ []) ys ns ∙ append_assoc rows (l ∷ []) (ys ++ ns)
+              ∙ ap (λ (bs : List Bool). rows ++ bs) (sym (table_tree-if Bool must_rank 1 (known_change r a) s c one other l e)),
+          q.2,
+        )
 
     -- and a `while`
     pub fills_while : (c : Atom) (body : Block) → s ≡ While c body → (told : List Bool) (turn low again : Bool) →
@@ -131,8 +133,9 @@ module _ (r : ℕ) (a : Atom) where
         let below = and_below l (around l) in
         let same = ap must_rank known in
         let above = g.above in
-        let p = f others (are_found (record { first = g.first; above = omega (arith, below, same, above); is = t.1 })) in
-        (found ∙ sym (exit_tree-while Bool must_rank 1 (known_change r a) s c body l e),
-        p.1 ∙ ap (λ (bs : List Bool). bs ++ table_known r a (tree_of body) low) pushed ∙ append_assoc rows (low ∷ []) (table_known r a (tree_of body) low)
-        ∙ ap (λ (b : Bool). rows ++ b ∷ table_known r a (tree_of body) b) found ∙ ap (λ (bs : List Bool). rows ++ bs) (sym (table_tree-while Bool must_rank 1 (known_change r a) s c body l e)),
-        p.2)
+        let p = f others (are_found (record { first = g.first; above = omega (arith, below, same, above); is = t.1 })) in (
+          found ∙ sym (exit_tree-while Bool must_rank 1 (known_change r a) s c body l e),
+          p.1 ∙ ap (λ (bs : List Bool). bs ++ table_known r a (tree_of body) low) pushed ∙ append_assoc rows (low ∷ []) (table_known r a (tree_of body) low)
+              ∙ ap (λ (b : Bool). rows ++ b ∷ table_known r a (tree_of body) b) found ∙ ap (λ (bs : List Bool). rows ++ bs) (sym (table_tree-while Bool must_rank 1 (known_change r a) s c body l e)),
+          p.2,
+        )

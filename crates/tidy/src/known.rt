@@ -142,12 +142,7 @@ fn row_after(alloc: Global, statement: &Stmt, row: Row) -> Result<Row, NoMemory>
 
 /// What is known after a block. Of each loop, what is known after a turn of it is put to the end of the turns.
 #[cycle(exits)]
-fn exit_block(
-    alloc: Global,
-    block: &Block,
-    row: Row,
-    turns: &mut Vec<Row>,
-) -> Result<Row, NoMemory>
+fn exit_block(alloc: Global, block: &Block, row: Row, turns: &mut Vec<Row>) -> Result<Row, NoMemory>
     ensures after { IfOk result (λ new. (r : ℕ) (a : Atom) → known_in new r a ≡ exit_known r a (tree_of block.now) (known_in row r a)) }
     ensures turns { OnOk result ((r : ℕ) (a : Atom) → known_column r a turns.new.items ≡ known_column r a turns.old.items ++ turns_known r a (tree_of block.now) (known_in row r a)) }
 {
@@ -160,12 +155,7 @@ fn exit_block(
 
 /// The same for a statement. One turn of a loop is enough: a pair that a turn loses is lost.
 #[cycle(exits)]
-fn exit(
-    alloc: Global,
-    statement: &Stmt,
-    row: Row,
-    turns: &mut Vec<Row>,
-) -> Result<Row, NoMemory>
+fn exit(alloc: Global, statement: &Stmt, row: Row, turns: &mut Vec<Row>) -> Result<Row, NoMemory>
     ensures after { IfOk result (λ new. (r : ℕ) (a : Atom) → known_in new r a ≡ exit_known r a (before_rest statement.now Empty) (known_in row r a)) }
     ensures turns { OnOk result ((r : ℕ) (a : Atom) → known_column r a turns.new.items ≡ known_column r a turns.old.items ++ turns_known r a (before_rest statement.now Empty) (known_in row r a)) }
 {
