@@ -1,3 +1,4 @@
+mod Names
 mod ExpectationWords
 mod ExpectationSteps
 mod ExpectationLines

@@ -11,6 +11,8 @@ use Rattle.litmus.specs.declared.outcome.Printed.{Printed}
 use Rattle.litmus.specs.declared.table.Sample.{Sample}
 use Rattle.litmus.specs.Outcome.{EndAndOutputs, by_thread, same_outcome}
 use Rattle.litmus_text.specs.Expectation.{Expected}
+use Rattle.litmus_text.specs.declared.expectation.ExpectedWord.{ExpectedWord}
+use Rattle.litmus_text.specs.declared.expectation.ExpectedWord.TheVariants.{Output, Last}
 
 -- Outcomes.
 
@@ -38,13 +40,26 @@ outcome_text p s outputs source =
 
 -- Expectations.
 
--- the outcome that an expectation speaks of
-abbrev pub wanted : Expected → EndAndOutputs
-wanted e = record { ending = Done; outputs = by_thread e.outputs }
+-- the output of a word
+abbrev pub output_named : ExpectedWord → List Printed
+output_named (Output o) = o ∷ []
+output_named (Last l) = []
 
--- `some` is met where there is such an outcome, and `none` where there is no such outcome
+-- the outputs of the words, in their order
+abbrev pub outputs_named : List ExpectedWord → List Printed
+outputs_named words = flat_map output_named words
+
+-- what an expectation says of the ending and of the outputs
+abbrev pub wanted : Expected → EndAndOutputs
+wanted e = record { ending = Done; outputs = by_thread (outputs_named e.words) }
+
+-- `some` is met where there is what it speaks of, and `none` where there isn't
+abbrev pub verdict : Expected → Bool → Bool
+verdict e there = if e.some then there else not there
+
+-- an expectation that names no last values, judged by outcomes
 abbrev pub is_met : Expected → List EndAndOutputs → Bool
-is_met e outcomes = if e.some then list_any (same_outcome (wanted e)) outcomes else not (list_any (same_outcome (wanted e)) outcomes)
+is_met e outcomes = verdict e (list_any (same_outcome (wanted e)) outcomes)
 
 abbrev pub verdict_line : Bool → Text
 verdict_line true = codes "met"
