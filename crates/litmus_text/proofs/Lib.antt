@@ -9,4 +9,5 @@ mod OneInput
 mod EachInput
 mod WordLists
 mod Answered
+mod OutputsAlone
 pub mod Callers

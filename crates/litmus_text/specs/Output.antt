@@ -65,9 +65,10 @@ abbrev pub verdict_line : Bool → Text
 verdict_line true = codes "met"
 verdict_line false = codes "unmet"
 
--- a line for each expectation
-abbrev pub verdict_lines : List Expected → List EndAndOutputs → Text
-verdict_lines expectations outcomes = flat_map (λ e. whole_line (verdict_line (is_met e outcomes))) expectations
+-- a line for each expectation, by a test of whether it is met
+abbrev pub verdict_lines : (Expected → Bool) → List Expected → Text
+verdict_lines met expectations = flat_map (λ e. whole_line (verdict_line (met e))) expectations
 
-abbrev pub are_met : List Expected → List EndAndOutputs → Bool
-are_met expectations outcomes = list_all (λ e. is_met e outcomes) expectations
+-- each passes the test
+abbrev pub are_met : (Expected → Bool) → List Expected → Bool
+are_met met expectations = list_all met expectations

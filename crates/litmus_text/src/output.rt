@@ -189,8 +189,8 @@ pub fn push_verdicts(
     expectations: &[Expectation],
     outcomes: &[RunOutcome],
 ) -> Result<bool, NoMemory>
-    ensures written { OnOk result (out.new.items ≡ out.old.items ++ verdict_lines expectations.now outcomes.now) }
-    ensures met { IfOk result (λ met. met ≡ are_met expectations.now outcomes.now) }
+    ensures written { OnOk result (out.new.items ≡ out.old.items ++ verdict_lines (λ e. is_met e outcomes.now) expectations.now) }
+    ensures met { IfOk result (λ met. met ≡ are_met (λ e. is_met e outcomes.now) expectations.now) }
 {
     let mut all = true;
     for expectation in expectations {
