@@ -58,8 +58,8 @@ abbrev pub verdict : Expected → Bool → Bool
 verdict e there = if e.some then there else not there
 
 -- an expectation that names no last values, judged by outcomes
-abbrev pub is_met : Expected → List EndAndOutputs → Bool
-is_met e outcomes = verdict e (list_any (same_outcome (wanted e)) outcomes)
+abbrev pub is_met : List EndAndOutputs → Expected → Bool
+is_met outcomes e = verdict e (list_any (same_outcome (wanted e)) outcomes)
 
 abbrev pub verdict_line : Bool → Text
 verdict_line true = codes "met"

@@ -163,7 +163,7 @@ fn is_among(outcomes: &[RunOutcome], wanted: &RunOutcome) -> bool
 
 /// Whether an expectation that names no last values is met by these outcomes. The only error is want of memory.
 pub fn is_met(alloc: Global, e: &Expectation, outcomes: &[RunOutcome]) -> Result<bool, NoMemory>
-    ensures { IfOk result (λ met. met ≡ is_met e.now outcomes.now) }
+    ensures { IfOk result (λ met. met ≡ is_met outcomes.now e.now) }
 {
     let wanted = wanted(alloc, e)?;
     Ok(verdict(e, is_among(outcomes, &wanted)))
@@ -189,8 +189,8 @@ pub fn push_verdicts(
     expectations: &[Expectation],
     outcomes: &[RunOutcome],
 ) -> Result<bool, NoMemory>
-    ensures written { OnOk result (out.new.items ≡ out.old.items ++ verdict_lines (λ e. is_met e outcomes.now) expectations.now) }
-    ensures met { IfOk result (λ met. met ≡ are_met (λ e. is_met e outcomes.now) expectations.now) }
+    ensures written { OnOk result (out.new.items ≡ out.old.items ++ verdict_lines (is_met outcomes.now) expectations.now) }
+    ensures met { IfOk result (λ met. met ≡ are_met (is_met outcomes.now) expectations.now) }
 {
     let mut all = true;
     for expectation in expectations {
