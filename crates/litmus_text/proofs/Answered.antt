@@ -1,20 +1,19 @@
 -- The answers of the code are those of the input.
-use Rattle.std.proofs.Common.{◌≡◌, ◌∙◌, ◌+◌, ◌≤◌, ◌++◌, ℕ, Bool, sym, subst, ap, refl, List, [], ◌∷◌, length, Err, codes, arith}
-use Rattle.std.proofs.lemmas.List.{length-append}
+use Rattle.std.proofs.Common.{◌≡◌, ◌+◌, ◌≤◌, ◌++◌, ℕ, Bool, sym, subst, ap, refl, List, Err, arith}
 use Rattle.text_parts.specs.Lines.{Text, newlines, whole_line}
 use Rattle.il_syntax.specs.declared.program.Program.{Program}
 use Rattle.il_grammar.specs.declared.rule.Rule.{Rule}
 use Rattle.il_parser.specs.Text.{SpellsProgram, IsFirstRefusal}
-use Rattle.il_reader.specs.Refusal.{Refusal, IfRefused, fault_map, line_refusal, refused, ruled}
+use Rattle.il_reader.specs.Refusal.{IfRefused, fault_map, line_refusal, refused, ruled}
 use Rattle.il_reader.specs.declared.fault.InputFault.{InputFault}
 use Rattle.il_reader.specs.declared.fault.InputFault.TheVariants.{Refused, NoMemory}
 use Rattle.litmus_text.specs.declared.fault.LitmusRule.{LitmusRule}
 use Rattle.litmus_text.specs.declared.fault.LitmusRule.TheVariants.{X, Grammar}
 use Rattle.il_syntax.specs.declared.program.Location.{Location}
 use Rattle.litmus_text.specs.Expectation.{named_locations}
-use Rattle.litmus_text.specs.Expectations.{AreExpectationsRefusedAfter, most_expectations}
-use Rattle.litmus_text.specs.Refusals.{expect_word, expectation_line_number}
-use Rattle.litmus_text.specs.Reading.{DividesLitmus, IsFirstLitmusRefusal, of_program, of_expectations, IsLitmusAnswer}
+use Rattle.litmus_text.specs.Expectations.{AreExpectationsRefusedAfter}
+use Rattle.litmus_text.specs.Refusals.{expect_word}
+use Rattle.litmus_text.specs.Reading.{DividesLitmus, of_program, of_expectations, IsLitmusAnswer}
 
 module _ (finals : Bool) (input : Text) (fault : InputFault LitmusRule) (a b : Text) (divided : DividesLitmus input a b) where
   of_parse : (f : InputFault Rule) → IfRefused f (λ r. IsFirstRefusal a r) → IsLitmusAnswer finals input (Err (fault_map (ruled Grammar) f))

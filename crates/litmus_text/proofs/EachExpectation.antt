@@ -1,6 +1,5 @@
 -- Each text is expectations, or is refused.
-use Rattle.std.proofs.Common.{◌≡◌, ◌∙◌, ◌<◌, ◌≤◌, ◌==◌, ◌⊎◌, ◌++◌, inl, inr, ℕ, ℤ, zero, suc, sym, ap, ap₂, refl, Bool, true, false, codes, map, List, [], ◌∷◌, length, arith}
-use Rattle.std.specs.Fmt.{decimal}
+use Rattle.std.proofs.Common.{◌≡◌, ◌∙◌, ◌<◌, ◌≤◌, ◌==◌, ◌⊎◌, ◌++◌, inl, inr, ℕ, zero, suc, sym, ap, ap₂, refl, Bool, true, false, codes, map, List, [], ◌∷◌, length, arith}
 use Rattle.std.specs.List.{All, join_with_byte, slice_split}
 use Rattle.std.proofs.lemmas.Bool.{cases_lt}
 use Rattle.std.proofs.lemmas.List.Elements.{All-cons, All-head, All-tail, All-nil}
@@ -12,7 +11,6 @@ use Rattle.values_undef.specs.declared.value.Val.TheVariants.{Def, Undef}
 use Rattle.text_parts.specs.Lines.{Text}
 use Rattle.text_parts.proofs.Callers.{HasLine, after_shorter, next_of}
 use Rattle.journal_text.specs.Limits.{IsValue}
-use Rattle.journal_text.specs.Line.{value_word}
 use Rattle.journal_text.proofs.Callers.{Decided, or_else, same_fact, some_below, some_value}
 use Rattle.litmus.specs.declared.outcome.Printed.{Printed}
 use Rattle.il_syntax.specs.declared.program.Location.{Location}

@@ -1,5 +1,5 @@
 -- Each input has an answer.
-use Rattle.std.proofs.Common.{◌⊎◌, inl, inr, ℕ, Bool, refl, List}
+use Rattle.std.proofs.Common.{◌⊎◌, inl, inr, Bool, refl, List}
 use Rattle.il_syntax.specs.declared.program.Program.{Program}
 use Rattle.il_grammar.specs.declared.rule.Rule.{Rule}
 use Rattle.il_reader.specs.Refusal.{Refusal, line_refusal, ruled}
@@ -9,7 +9,6 @@ use Rattle.text_parts.specs.Lines.{Text}
 use Rattle.litmus_text.specs.declared.fault.LitmusRule.{LitmusRule}
 use Rattle.litmus_text.specs.declared.fault.LitmusRule.TheVariants.{X, Grammar}
 use Rattle.litmus_text.specs.Expectation.{Expected, named_locations}
-use Rattle.litmus_text.specs.Expectations.{ReadsExpectations, AreExpectationsRefusedAfter}
 use Rattle.litmus_text.specs.Laws.{LitmusInputsReadOrAreRefused}
 use Rattle.litmus_text.specs.Refusals.{expectation_line_number}
 use Rattle.litmus_text.specs.Reading.{DividesLitmus, ReadsLitmus, IsFirstLitmusRefusal, of_program, of_expectations}

@@ -1,5 +1,5 @@
 -- The words of an expectation: they are made of visible bytes, a line is cut into them, and they are those of one expectation alone.
-use Rattle.std.proofs.Common.{◌≡◌, ◌∙◌, ◌==◌, ◌&&◌, ◌≤◌, ◌<◌, ◌^◌, ◌++◌, ℕ, ℤ, pos, negsuc, suc, zero, codes, map, sym, ap, ap₂, subst, refl, Bool, true, false, List, [], ◌∷◌, length, get_or, take, arith, Option, Some, None}
+use Rattle.std.proofs.Common.{◌≡◌, ◌∙◌, ◌==◌, ◌≤◌, ◌^◌, ◌++◌, ℕ, ℤ, pos, negsuc, suc, codes, map, sym, ap, ap₂, subst, refl, Bool, true, false, List, [], ◌∷◌, length, get_or, take, arith, Option, Some, None}
 use Rattle.std.specs.Fmt.{decimal, signed_decimal}
 use Rattle.std.specs.List.{All, join_with_byte, list_all, slice_split}
 use Rattle.std.specs.Str.{IsUtf8}

@@ -1,18 +1,17 @@
 -- An input has one answer.
 use Rattle.std.proofs.Common.{◌≡◌, ◌∙◌, ℕ, Bool, sym, ap, subst, List}
 use Rattle.text_parts.specs.Lines.{Text}
-use Rattle.il_grammar.specs.declared.rule.Rule.{Rule}
-use Rattle.il_reader.specs.Refusal.{Refusal, line_refusal, ruled}
+use Rattle.il_reader.specs.Refusal.{line_refusal, ruled}
 use Rattle.il_parser.proofs.Callers.{one_first, one_program, spelled_unrefused, spelled_well_formed}
 use Rattle.il_parser.specs.Text.{SpellsProgram, IsFirstRefusal}
 use Rattle.il_syntax.specs.declared.program.Program.{Program}
 use Rattle.il_syntax.specs.declared.program.Location.{Location}
 use Rattle.litmus_text.specs.declared.fault.LitmusRule.TheVariants.{X, Grammar}
-use Rattle.litmus_text.specs.Expectation.{Expected, named_locations}
+use Rattle.litmus_text.specs.Expectation.{named_locations}
 use Rattle.litmus_text.specs.Expectations.{ReadsExpectations, AreExpectationsRefusedAfter}
 use Rattle.litmus_text.specs.Laws.{LitmusInputsReadInOneWay, LitmusInputsThatReadAreNotRefused, LitmusInputsHaveOneFirstRefusal}
 use Rattle.litmus_text.specs.Refusals.{expectation_line_number}
-use Rattle.litmus_text.specs.Reading.{DividesLitmus, ReadsLitmus, IsFirstLitmusRefusal, of_program, of_expectations}
+use Rattle.litmus_text.specs.Reading.{of_program, of_expectations}
 use Rattle.litmus_text.proofs.ExpectationLines.{not_refused, one_count, one_reading}
 use Rattle.litmus_text.proofs.Names.{AreNamed, are_named}
 use Rattle.litmus_text.proofs.Parts.{at_parts}

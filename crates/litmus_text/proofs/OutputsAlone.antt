@@ -1,5 +1,5 @@
 -- Where no location may be named, expectations name outputs alone.
-use Rattle.std.proofs.Common.{◌<◌, ℕ, List, [], arith}
+use Rattle.std.proofs.Common.{List, [], arith}
 use Rattle.std.specs.List.{All}
 use Rattle.std.proofs.lemmas.List.Elements.{All-weaker}
 use Rattle.litmus_text.specs.Expectation.{Expected, FitsExpectation, FitsWord}

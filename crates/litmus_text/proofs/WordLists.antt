@@ -1,5 +1,5 @@
 -- Words that are read, one after the other.
-use Rattle.std.proofs.Common.{◌≡◌, ◌∙◌, ◌+◌, ◌<◌, ℕ, zero, suc, sym, ap, ap₂, subst, refl, Bor, map, List, [], ◌∷◌, ◌++◌, length, get_or, take, arith, Option, Some, None}
+use Rattle.std.proofs.Common.{◌≡◌, ◌∙◌, ◌+◌, ◌<◌, ℕ, zero, suc, sym, ap, ap₂, subst, Bor, map, List, [], ◌∷◌, ◌++◌, length, get_or, take, arith, Option, None}
 use Rattle.std.specs.List.{All}
 use Rattle.std.proofs.lemmas.List.{map-append, take_more}
 use Rattle.std.proofs.lemmas.List.Elements.{All-head, All-push, All-tail}

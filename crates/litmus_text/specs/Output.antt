@@ -1,5 +1,5 @@
 -- The output: the outcomes of a table with their journals, and whether each expectation is met.
-use Rattle.std.specs.Prelude.{ℕ, ◌++◌, ◌∷◌, [], List, Bool, true, false, not, codes, if◌then◌else◌}
+use Rattle.std.specs.Prelude.{◌++◌, ◌∷◌, [], List, Bool, true, false, not, codes, if◌then◌else◌}
 use Rattle.std.specs.Fmt.{decimal, signed_decimal}
 use Rattle.std.specs.List.{flat_map, join_with_byte, list_all, list_any}
 use Rattle.values_undef.specs.declared.journal.Ending.TheVariants.{Done}

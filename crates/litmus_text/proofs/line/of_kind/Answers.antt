@@ -1,6 +1,5 @@
 use Rattle.std.proofs.Common.{◌≡◌, List, map, rules}
 use Rattle.std.specs.List.{All}
-use Rattle.text_parts.specs.Lines.{Text}
 use Rattle.litmus_text.specs.Expectation.{FitsWord, expected_word, named_locations}
 use Rattle.litmus_text.specs.declared.expectation.ExpectedWord.{ExpectedWord}
 use Rattle.litmus_text.proofs.ExpectationWords.{more_words}
