@@ -1,7 +1,7 @@
 -- What an answer says of the input.
 use Rattle.std.proofs.Common.{◌≡◌, ℕ, Bool, true, List, refl, subst}
 use Rattle.il_syntax.specs.declared.program.Program.{Program}
-use Rattle.il_reader.specs.Refusal.{Refusal, IfRefused}
+use Rattle.il_reader.specs.Refusal.{IfRefused}
 use Rattle.il_reader.specs.declared.fault.InputFault.{InputFault}
 use Rattle.il_reader.specs.declared.fault.InputFault.TheVariants as input_fault
 use Rattle.text_parts.specs.Lines.{Text}

@@ -1,10 +1,9 @@
 -- What the verdicts say of runs.
-use Rattle.std.proofs.Common.{◌≡◌, ◌↔◌, ⊎_elim, ℕ, zero, suc, ◌+◌, ◌<◌, ◌&&◌, Bool, true, false, not, if◌then◌else◌, List, [], ◌∷◌, length, map, take, get_or, refl, sym, ap, ap₂, subst, ◌∙◌, arith}
+use Rattle.std.proofs.Common.{◌≡◌, ⊎_elim, ℕ, zero, suc, ◌+◌, ◌<◌, Bool, true, false, not, if◌then◌else◌, List, [], ◌∷◌, length, map, take, get_or, refl, sym, ap, ap₂, subst, ◌∙◌, arith}
 use Rattle.std.specs.Prelude.{◌||◌, slice_index_or}
 use Rattle.std.specs.Cmp.{signed_Decides}
-use Rattle.std.specs.List.{AllByRecursion, Contains, list_all, list_any}
+use Rattle.std.specs.List.{AllByRecursion, list_all, list_any}
 use Rattle.std.proofs.lemmas.Bool.{and_from, and_parts, cases_Bool, true≢false, false≢true, false_from_ne_true, or_left, or_right}
-use Rattle.std.proofs.lemmas.List.{get_or-map}
 use Rattle.std.proofs.lemmas.List.Folds.{list_any_more}
 use Rattle.values_undef.specs.declared.value.Val.{Val}
 use Rattle.values_undef.specs.declared.value.Val.TheVariants.{Def, Undef}
@@ -18,15 +17,10 @@ use Rattle.litmus_text.specs.declared.expectation.ExpectedWord.TheVariants.{Outp
 use Rattle.outcome_list.specs.List.{IsFound, found_outcome}
 use Rattle.outcome_list.specs.declared.found.Found.{Found}
 use Rattle.outcome_nodes.specs.Outcome.{FinalOutcome, final_outcome_of}
-use Rattle.outcomes_session.specs.Judging.{equal_values, has_value, is_as_expected, is_met_by}
+use Rattle.outcomes_session.specs.Judging.{equal_values, has_value, is_as_expected}
 use Rattle.outcomes_session.specs.Laws.{HasNamed, SomeRunMeets, VerdictsAreOfRuns}
-use Rattle.outcomes_session.specs.Session.{AreAllOutcomes, told_outcomes}
+use Rattle.outcomes_session.specs.Session.{AreAllOutcomes}
 use Rattle.outcomes_session.proofs.Printing.{comes_same}
-
--- what a run of the list comes to stands at its place
-pub told_at : (p : Program) (list : List Found) (outcomes : List EndAndOutputs) (i : ℕ) (d : Found) (o : EndAndOutputs) → i < length list → outcomes ≡ told_outcomes p list
-    → get_or outcomes i o ≡ outcome_in (get_or list i d).journal (length p.threads)
-told_at p list outcomes i d o below is = ap (λ (os : List EndAndOutputs). get_or os i o) is ∙ get_or-map (λ (f : Found). outcome_in f.journal (length p.threads)) list i d o below
 
 -- one run more
 pub any_more : (p : Program) (e : Expected) (list : List Found) (there here : Bool) (i : ℕ) (d : Found) → i < length list → there ≡ list_any (is_as_expected p e) (take i list) → here ≡ is_as_expected p e (get_or list i d)

@@ -1,6 +1,5 @@
-use Rattle.std.proofs.Common.{◌≡◌, ◌∙◌, ◌+◌, Bool, refl, ap, sym, take}
+use Rattle.std.proofs.Common.{◌∙◌, Bool, ap, sym}
 use Rattle.std.specs.Prelude.{◌||◌}
-use Rattle.std.specs.List.{list_any}
 use Rattle.outcomes_session.specs.Judging.{is_as_expected}
 use Rattle.outcomes_session.proofs.Verdicts.{any_more}
 use Rattle.outcomes_session.proofs.judging.is_found.Goals as goal

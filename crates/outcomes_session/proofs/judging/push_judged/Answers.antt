@@ -1,4 +1,4 @@
-use Rattle.std.proofs.Common.{◌≡◌, ◌∙◌, ◌&&◌, ◌++◌, ◌≤◌, Bool, true, false, List, length, refl, ap, sym, arith}
+use Rattle.std.proofs.Common.{◌∙◌, ◌&&◌, ◌++◌, ◌≤◌, Bool, List, length, ap, sym, arith}
 use Rattle.std.proofs.lemmas.List.{take_all}
 use Rattle.litmus_text.specs.Expectation.{Expected}
 use Rattle.litmus_text.specs.Output.{verdict_lines}
