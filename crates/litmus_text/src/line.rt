@@ -5,7 +5,7 @@ ghost use Rattle.std.specs.List.{All, slice_split};
 ghost use Rattle.il_syntax.specs.Text.{location_name};
 ghost use Rattle.il_syntax.specs.WellFormed.{IsWellFormed};
 ghost use Rattle.journal_text.specs.Kind.{Decodes};
-ghost use Rattle.journal_text.specs.Limits.{Has64Bits, IsValue};
+ghost use Rattle.journal_text.specs.Limits.{Has64Bits};
 ghost use Rattle.journal_text.specs.Line.{value_word};
 ghost use Rattle.litmus.specs.declared.outcome.Printed.{Printed};
 ghost use Rattle.litmus_text.specs.declared.expectation.ExpectedWord.{ExpectedWord};

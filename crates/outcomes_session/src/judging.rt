@@ -1,7 +1,6 @@
 //! Expectations, judged by the outcomes of a list.
-ghost use Rattle.std.specs.Prelude.{◌≡◌, ◌++◌, ℕ, ◌<◌, IfOk, OnOk, length};
+ghost use Rattle.std.specs.Prelude.{◌≡◌, ◌++◌, IfOk, OnOk, length};
 ghost use Rattle.std.specs.List.{list_all, list_any};
-ghost use Rattle.il_syntax.specs.declared.program.Program.{Program};
 ghost use Rattle.litmus.specs.Outcome.{outcome_in};
 ghost use Rattle.litmus_text.specs.Output.{are_met, verdict_lines, wanted};
 ghost use Rattle.outcomes_session.specs.Judging.{equal_values, has_value, is_as_expected, is_met_by};
