@@ -1,5 +1,5 @@
 -- An answer is fixed by the input but for source journals.
-use Rattle.std.proofs.Common.{◌≡◌, ◌∙◌, ◌++◌, ℕ, Bool, List, map, sym, ap, ap₂, subst}
+use Rattle.std.proofs.Common.{◌≡◌, ◌∙◌, ◌++◌, ℕ, Bool, false, List, map, sym, ap, ap₂, subst}
 use Rattle.il_syntax.specs.declared.program.Program.{Program}
 use Rattle.il_reader.specs.Refusal.{Refusal}
 use Rattle.text_parts.specs.Lines.{Text}
@@ -10,7 +10,7 @@ use Rattle.litmus.specs.Table.{IsOutcomeTable}
 use Rattle.litmus.specs.declared.table.Sample.{Sample}
 use Rattle.litmus.proofs.Callers.{one_table}
 use Rattle.litmus_text.specs.Expectation.{Expected}
-use Rattle.litmus_text.specs.Output.{are_met, verdict_lines}
+use Rattle.litmus_text.specs.Output.{are_met, is_met, verdict_lines}
 use Rattle.litmus_text.specs.declared.fault.LitmusRule.{LitmusRule}
 use Rattle.litmus_text.proofs.Callers.{input_unrefused, one_input, one_refusal}
 use Rattle.litmus_session.specs.Laws.{AgreesButForSources, VerdictsAreFixed, same, same_table}
@@ -32,18 +32,19 @@ judged_alike p es seed seeds steps text other_text met other_met answer other x 
     ap (λ (q : Program). map (outcome_of_row q) y.samples) (sym targets) ∙ ap (map (outcome_of_row x.target)) (sym samples) in
     let told : AreRowsText p x.target x.samples y.rows =
     subst (λ (s : List Sample). AreRowsText p x.target s y.rows) (sym samples) (subst (λ (q : Program). AreRowsText p q y.samples y.rows) (sym targets) y.told) in
-    let written : other_text ≡ y.rows ++ verdict_lines es (map (outcome_of_row x.target) x.samples) = y.written ∙ ap (λ (os : List EndAndOutputs). y.rows ++ verdict_lines es os) outcomes in
-    let all : other_met ≡ met = y.all ∙ ap (are_met es) outcomes ∙ sym x.all in
-    same_table p x.target x.samples x.rows y.rows (verdict_lines es (map (outcome_of_row x.target) x.samples)) met x.told told
+    let written : other_text ≡ y.rows ++ verdict_lines (is_met (map (outcome_of_row x.target) x.samples)) es =
+    y.written ∙ ap (λ (os : List EndAndOutputs). y.rows ++ verdict_lines (is_met os) es) outcomes in
+    let all : other_met ≡ met = y.all ∙ ap (λ (os : List EndAndOutputs). are_met (is_met os) es) outcomes ∙ sym x.all in
+    same_table p x.target x.samples x.rows y.rows (verdict_lines (is_met (map (outcome_of_row x.target) x.samples)) es) met x.told told
     (is ∙ ap (λ (t : Text). Judged t met) x.written) (other_is ∙ ap₂ (λ (t : Text) (b : Bool). Judged t b) written all)
 
 pub verdicts_fixed : VerdictsAreFixed
 verdicts_fixed input seed seeds steps answer other (unread r first is) (unread q other_first other_is) =
-    same (is ∙ ap (λ (s : Refusal LitmusRule). Refused s.rule s.line s.column) (one_refusal input r q first other_first) ∙ sym other_is)
-verdicts_fixed input seed seeds steps answer other (unread r first is) (judged p es text met reads j other_is) = absurd (input_unrefused input p es r reads first)
-verdicts_fixed input seed seeds steps answer other (judged p es text met reads j is) (unread r first other_is) = absurd (input_unrefused input p es r reads first)
+    same (is ∙ ap (λ (s : Refusal LitmusRule). Refused s.rule s.line s.column) (one_refusal false input r q first other_first) ∙ sym other_is)
+verdicts_fixed input seed seeds steps answer other (unread r first is) (judged p es text met reads j other_is) = absurd (input_unrefused false input p es r reads first)
+verdicts_fixed input seed seeds steps answer other (judged p es text met reads j is) (unread r first other_is) = absurd (input_unrefused false input p es r reads first)
 verdicts_fixed input seed seeds steps answer other (judged p es text met reads j is) (judged q fs other_text other_met other_reads k other_is) =
-    let one = one_input input q p fs es other_reads reads in
+    let one = one_input false input q p fs es other_reads reads in
     let moved : IsJudgedTable p es seed seeds steps other_text other_met =
     subst (λ (xs : List Expected). IsJudgedTable p xs seed seeds steps other_text other_met) one.1 (subst (λ (r : Program). IsJudgedTable r fs seed seeds steps other_text other_met) one.0 k) in
     judged_alike p es seed seeds steps text other_text met other_met answer other j moved is other_is

@@ -1,5 +1,5 @@
 -- What is judged of a program, and answered to an input.
-use Rattle.std.proofs.Common.{◌≡◌, ◌≤◌, ℕ, Bool, List, refl, subst, arith}
+use Rattle.std.proofs.Common.{◌≡◌, ◌≤◌, ℕ, Bool, false, List, refl, subst, arith}
 use Rattle.std.specs.List.{All}
 use Rattle.std.proofs.lemmas.List.Elements.{All-weaker}
 use Rattle.il_syntax.specs.declared.program.Program.{Program}
@@ -27,11 +27,11 @@ rows_few target seed seeds steps samples few all =
     All-weaker (IsRunOfSeeds target seed seeds steps) (λ (s : Sample). AreFew s.journal)
     (λ s x. complete_runs_are_few target s.journal steps (omega (arith, few)) x.sampled.run x.sampled.complete) samples all
 
-pub answer_judged : (input : Text) (seed seeds steps : ℕ) (p : Program) (es judged_es : List Expected) (text : Text) (met : Bool) → ReadsLitmus input p es → judged_es ≡ es → IsJudgedTable p judged_es seed seeds steps text met
+pub answer_judged : (input : Text) (seed seeds steps : ℕ) (p : Program) (es judged_es : List Expected) (text : Text) (met : Bool) → ReadsLitmus false input p es → judged_es ≡ es → IsJudgedTable p judged_es seed seeds steps text met
     → IsLitmusSession input seed seeds steps (Judged text met)
 answer_judged input seed seeds steps p es judged_es text met reads is j = judged p es text met reads (subst (λ (xs : List Expected). IsJudgedTable p xs seed seeds steps text met) is j) refl
 
-pub answer_refused : (input : Text) (seed seeds steps : ℕ) (fault : InputFault LitmusRule) (rule : LitmusRule) (line column : ℕ) → IfRefused fault (λ r. IsFirstLitmusRefusal input r) → fault ≡ input_fault.Refused rule line column
+pub answer_refused : (input : Text) (seed seeds steps : ℕ) (fault : InputFault LitmusRule) (rule : LitmusRule) (line column : ℕ) → IfRefused fault (λ r. IsFirstLitmusRefusal false input r) → fault ≡ input_fault.Refused rule line column
     → IsLitmusSession input seed seeds steps (Refused rule line column)
 answer_refused input seed seeds steps fault rule line column is refused =
-    unread (record { rule = rule; line = line; column = column }) (subst (λ (e : InputFault LitmusRule). IfRefused e (λ r. IsFirstLitmusRefusal input r)) refused is) refl
+    unread (record { rule = rule; line = line; column = column }) (subst (λ (e : InputFault LitmusRule). IfRefused e (λ r. IsFirstLitmusRefusal false input r)) refused is) refl

@@ -1,5 +1,5 @@
 -- What is answered to an input.
-use Rattle.std.specs.Prelude.{◌≡◌, ℕ, ◌^◌, ◌<◌, ◌≤◌, ◌++◌, Bool, List, length, map}
+use Rattle.std.specs.Prelude.{◌≡◌, ℕ, ◌^◌, ◌<◌, ◌≤◌, ◌++◌, Bool, false, List, length, map}
 use Rattle.std.specs.List.{AllZip, flat_map}
 use Rattle.values_undef.specs.declared.journal.Entry.{Entry}
 use Rattle.il_syntax.specs.declared.program.Program.{Program}
@@ -11,7 +11,7 @@ use Rattle.litmus.specs.Outcome.{EndAndOutputs, outcome_in}
 use Rattle.litmus.specs.Table.{IsOutcomeTable}
 use Rattle.litmus.specs.declared.table.Sample.{Sample}
 use Rattle.litmus_text.specs.Expectation.{Expected}
-use Rattle.litmus_text.specs.Output.{are_met, outcome_text, verdict_lines}
+use Rattle.litmus_text.specs.Output.{are_met, is_met, outcome_text, verdict_lines}
 use Rattle.litmus_text.specs.Reading.{ReadsLitmus, IsFirstLitmusRefusal}
 use Rattle.litmus_text.specs.declared.fault.LitmusRule.{LitmusRule}
 use Rattle.litmus_session.specs.declared.answer.LitmusAnswer.{LitmusAnswer}
@@ -50,11 +50,11 @@ pub record IsJudgedTable (given : Program) (expectations : List Expected) (seed 
   pub optimised : IsOptimised given target
   pub table : IsOutcomeTable target seed seeds steps samples
   pub told : AreRowsText given target samples rows
-  pub written : text ≡ rows ++ verdict_lines expectations (map (outcome_of_row target) samples)
-  pub all : met ≡ are_met expectations (map (outcome_of_row target) samples)
+  pub written : text ≡ rows ++ verdict_lines (is_met (map (outcome_of_row target) samples)) expectations
+  pub all : met ≡ are_met (is_met (map (outcome_of_row target) samples)) expectations
 
 -- The answer: the first refusal of the input, or what is written of its program and its expectations.
 pub data IsLitmusSession (input : Text) (seed seeds steps : ℕ) (answer : LitmusAnswer) : Type 0 where
-  unread : (r : Refusal LitmusRule) → IsFirstLitmusRefusal input r → answer ≡ Refused r.rule r.line r.column → IsLitmusSession input seed seeds steps answer
-  judged : (p : Program) (expectations : List Expected) (text : Text) (met : Bool) → ReadsLitmus input p expectations → IsJudgedTable p expectations seed seeds steps text met
+  unread : (r : Refusal LitmusRule) → IsFirstLitmusRefusal false input r → answer ≡ Refused r.rule r.line r.column → IsLitmusSession input seed seeds steps answer
+  judged : (p : Program) (expectations : List Expected) (text : Text) (met : Bool) → ReadsLitmus false input p expectations → IsJudgedTable p expectations seed seeds steps text met
       → answer ≡ Judged text met → IsLitmusSession input seed seeds steps answer

@@ -41,7 +41,7 @@ pub fn litmus_answer<M: MessageMemory, R: Threads + Sync>(
     requires condition { HasLitmusCondition seed seeds steps }
     ensures { IfOk result (λ a. IsLitmusSession input.now seed seeds steps a) }
 {
-    match read_litmus(alloc, input) {
+    match read_litmus(alloc, input, false) {
         Ok(read) => {
             let expectations = read.expectations.as_slice();
             let judged = judged::<M, R>(

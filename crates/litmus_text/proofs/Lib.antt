@@ -1,3 +1,4 @@
+mod Names
 mod ExpectationWords
 mod ExpectationSteps
 mod ExpectationLines
@@ -8,4 +9,5 @@ mod OneInput
 mod EachInput
 mod WordLists
 mod Answered
+mod OutputsAlone
 pub mod Callers

@@ -1,5 +1,5 @@
 -- The output: the outcomes of a table with their journals, and whether each expectation is met.
-use Rattle.std.specs.Prelude.{ℕ, ◌++◌, ◌∷◌, [], List, Bool, true, false, not, codes, if◌then◌else◌}
+use Rattle.std.specs.Prelude.{◌++◌, ◌∷◌, [], List, Bool, true, false, not, codes, if◌then◌else◌}
 use Rattle.std.specs.Fmt.{decimal, signed_decimal}
 use Rattle.std.specs.List.{flat_map, join_with_byte, list_all, list_any}
 use Rattle.values_undef.specs.declared.journal.Ending.TheVariants.{Done}
@@ -11,6 +11,8 @@ use Rattle.litmus.specs.declared.outcome.Printed.{Printed}
 use Rattle.litmus.specs.declared.table.Sample.{Sample}
 use Rattle.litmus.specs.Outcome.{EndAndOutputs, by_thread, same_outcome}
 use Rattle.litmus_text.specs.Expectation.{Expected}
+use Rattle.litmus_text.specs.declared.expectation.ExpectedWord.{ExpectedWord}
+use Rattle.litmus_text.specs.declared.expectation.ExpectedWord.TheVariants.{Output, Last}
 
 -- Outcomes.
 
@@ -38,21 +40,35 @@ outcome_text p s outputs source =
 
 -- Expectations.
 
--- the outcome that an expectation speaks of
-abbrev pub wanted : Expected → EndAndOutputs
-wanted e = record { ending = Done; outputs = by_thread e.outputs }
+-- the output of a word
+abbrev pub output_named : ExpectedWord → List Printed
+output_named (Output o) = o ∷ []
+output_named (Last l) = []
 
--- `some` is met where there is such an outcome, and `none` where there is no such outcome
-abbrev pub is_met : Expected → List EndAndOutputs → Bool
-is_met e outcomes = if e.some then list_any (same_outcome (wanted e)) outcomes else not (list_any (same_outcome (wanted e)) outcomes)
+-- the outputs of the words, in their order
+abbrev pub outputs_named : List ExpectedWord → List Printed
+outputs_named words = flat_map output_named words
+
+-- what an expectation says of the ending and of the outputs
+abbrev pub wanted : Expected → EndAndOutputs
+wanted e = record { ending = Done; outputs = by_thread (outputs_named e.words) }
+
+-- `some` is met where there is what it speaks of, and `none` where there isn't
+abbrev pub verdict : Expected → Bool → Bool
+verdict e there = if e.some then there else not there
+
+-- an expectation that names no last values, judged by outcomes
+abbrev pub is_met : List EndAndOutputs → Expected → Bool
+is_met outcomes e = verdict e (list_any (same_outcome (wanted e)) outcomes)
 
 abbrev pub verdict_line : Bool → Text
 verdict_line true = codes "met"
 verdict_line false = codes "unmet"
 
--- a line for each expectation
-abbrev pub verdict_lines : List Expected → List EndAndOutputs → Text
-verdict_lines expectations outcomes = flat_map (λ e. whole_line (verdict_line (is_met e outcomes))) expectations
+-- a line for each expectation, by a test of whether it is met
+abbrev pub verdict_lines : (Expected → Bool) → List Expected → Text
+verdict_lines met expectations = flat_map (λ e. whole_line (verdict_line (met e))) expectations
 
-abbrev pub are_met : List Expected → List EndAndOutputs → Bool
-are_met expectations outcomes = list_all (λ e. is_met e outcomes) expectations
+-- each passes the test
+abbrev pub are_met : (Expected → Bool) → List Expected → Bool
+are_met met expectations = list_all met expectations

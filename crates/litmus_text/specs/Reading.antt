@@ -1,5 +1,5 @@
 -- What an input must be to be read as a program and expectations, and what the first refusal of another is.
-use Rattle.std.specs.Prelude.{◌≡◌, ℕ, List, [], Result}
+use Rattle.std.specs.Prelude.{◌≡◌, ℕ, Bool, List, [], Result}
 use Rattle.text_parts.specs.Lines.{Text}
 use Rattle.text_parts.specs.Division.{LacksLine, DividesAtLine}
 use Rattle.il_syntax.specs.declared.program.Program.{Program}
@@ -10,7 +10,7 @@ use Rattle.il_parser.specs.Text.{SpellsProgram, IsFirstRefusal}
 use Rattle.litmus_text.specs.declared.fault.LitmusRule.{LitmusRule}
 use Rattle.litmus_text.specs.declared.fault.LitmusRule.TheVariants.{X, Grammar}
 use Rattle.litmus_text.specs.declared.input.LitmusInput.{LitmusInput}
-use Rattle.litmus_text.specs.Expectation.{Expected}
+use Rattle.litmus_text.specs.Expectation.{Expected, named_locations}
 use Rattle.litmus_text.specs.Expectations.{ReadsExpectations, AreExpectationsRefusedAfter}
 use Rattle.litmus_text.specs.Refusals.{expect_word, expectation_line_number}
 
@@ -20,22 +20,22 @@ pub data DividesLitmus (input program_text expectations_text : Text) : Type 0 wh
   at_expect : DividesAtLine expect_word input program_text expectations_text → DividesLitmus input program_text expectations_text
   whole : LacksLine expect_word input → program_text ≡ input → expectations_text ≡ [] → DividesLitmus input program_text expectations_text
 
--- the input is the text of the program and these expectations
-pub record ReadsLitmus (input : Text) (program : Program) (expectations : List Expected) : Type 0 where
+-- the input is the text of the program and these expectations, which may name last values or may not
+pub record ReadsLitmus (finals : Bool) (input : Text) (program : Program) (expectations : List Expected) : Type 0 where
   pub program_text : Text
   pub expectations_text : Text
   pub divided : DividesLitmus input program_text expectations_text
   pub spelled : SpellsProgram program_text program
-  pub reads : ReadsExpectations expectations_text expectations
+  pub reads : ReadsExpectations (named_locations finals program) expectations_text expectations
 
 -- the first refusal: that of the program, then the first line that is no expectation
-pub data IsFirstLitmusRefusal (input : Text) (r : Refusal LitmusRule) : Type 0 where
+pub data IsFirstLitmusRefusal (finals : Bool) (input : Text) (r : Refusal LitmusRule) : Type 0 where
   of_program : (program_text expectations_text : Text) (q : Refusal Rule) → DividesLitmus input program_text expectations_text
-      → IsFirstRefusal program_text q → r ≡ ruled Grammar q → IsFirstLitmusRefusal input r
+      → IsFirstRefusal program_text q → r ≡ ruled Grammar q → IsFirstLitmusRefusal finals input r
   of_expectations : (program_text expectations_text : Text) (program : Program) (lines : ℕ) → DividesLitmus input program_text expectations_text
-      → SpellsProgram program_text program → AreExpectationsRefusedAfter expectations_text lines
-      → r ≡ line_refusal X (expectation_line_number program_text lines) → IsFirstLitmusRefusal input r
+      → SpellsProgram program_text program → AreExpectationsRefusedAfter (named_locations finals program) expectations_text lines
+      → r ≡ line_refusal X (expectation_line_number program_text lines) → IsFirstLitmusRefusal finals input r
 
 -- the answer is what the input reads as, or its first refusal
-abbrev pub IsLitmusAnswer : Text → Result LitmusInput (InputFault LitmusRule) → Type 0
-IsLitmusAnswer input = Answers (λ x. ReadsLitmus input x.program x.expectations.items) (IsFirstLitmusRefusal input)
+abbrev pub IsLitmusAnswer : Bool → Text → Result LitmusInput (InputFault LitmusRule) → Type 0
+IsLitmusAnswer finals input = Answers (λ x. ReadsLitmus finals input x.program x.expectations.items) (IsFirstLitmusRefusal finals input)

@@ -1,16 +1,19 @@
 //! The expectations of a text, each on a line of its own.
 ghost use Rattle.std.specs.Prelude.{◌≡◌, MatchResult};
+ghost use Rattle.il_syntax.specs.WellFormed.{IsWellFormed};
+ghost use Rattle.litmus_text.specs.Expectation.{named_locations};
 ghost use Rattle.litmus_text.specs.Expectations.{ReadsExpectations, IsExpectationsFault};
 ghost use Rattle.litmus_text.specs.declared.expectations.ExpectationsFault.TheVariants.{NoMemory};
 
 use crate::expectation::Expectation;
 use crate::line::expectation_of_line;
+use il_syntax::Program;
 use std::alloc::{AllocError, AllocFailed, Global};
 use text_parts::next_line;
 
 /// Why a text gave no expectations.
 #[derive(Clone, Copy, PartialEq, Eq)]
-pub enum ExpectationsFault {
+pub(crate) enum ExpectationsFault {
     /// After so many lines comes one that is no expectation, or one too many.
     Refused { lines: u32 },
     /// There was no memory to read it.
@@ -36,10 +39,17 @@ impl<T: Drop> From<AllocFailed<T>> for ExpectationsFault {
 /// The most lines of expectations.
 pub const MOST_EXPECTATIONS: usize = 256;
 
-/// The expectations of a text: each on a line of its own, at most [`MOST_EXPECTATIONS`] of them; the newline of the last may be
-/// missing. The text is refused after the expectations that it has, where the line after them is none, or is one too many.
-pub fn read_expectations(alloc: Global, text: &[u8]) -> Result<Vec<Expectation>, ExpectationsFault>
-    ensures { MatchResult result (λ v. ReadsExpectations text.now v.items) (IsExpectationsFault text.now) }
+/// The expectations of a text, which may name last values of the program's locations where `finals` says so: each on a line of its
+/// own, at most [`MOST_EXPECTATIONS`] of them; the newline of the last may be missing. The text is refused after the expectations
+/// that it has, where the line after them is none, or is one too many.
+pub(crate) fn read_expectations(
+    alloc: Global,
+    text: &[u8],
+    p: &Program,
+    finals: bool,
+) -> Result<Vec<Expectation>, ExpectationsFault>
+    requires { IsWellFormed p.now }
+    ensures { MatchResult result (λ v. ReadsExpectations (named_locations finals p.now) text.now v.items) (IsExpectationsFault (named_locations finals p.now) text.now) }
 {
     let mut expectations = Vec::new(alloc);
     let mut rest = text;
@@ -48,7 +58,7 @@ pub fn read_expectations(alloc: Global, text: &[u8]) -> Result<Vec<Expectation>,
             let lines = MOST_EXPECTATIONS as u32;
             return Err(ExpectationsFault::Refused { lines });
         }
-        let expectation = expectation_of_line(alloc, line)?;
+        let expectation = expectation_of_line(alloc, line, p, finals)?;
         match expectation {
             Some(expectation) => {
                 expectations.push(expectation)?;

@@ -39,14 +39,15 @@ fn with_expectations(
     program: Program,
     program_text: &[u8],
     expectations_text: &[u8],
+    finals: bool,
 ) -> Result<LitmusInput, InputFault<LitmusRule>>
     requires program { IsWellFormed program }
     requires spelled { SpellsProgram program_text.now program }
     requires small { length program_text.now < 2 ^ 32 - 300 }
-    ensures answer { (input : List ℕ) → DividesLitmus input program_text.now expectations_text.now → IsLitmusAnswer input result }
+    ensures answer { (input : List ℕ) → DividesLitmus input program_text.now expectations_text.now → IsLitmusAnswer finals input result }
     ensures program { IfOk result (λ x. IsWellFormed x.program) }
 {
-    match read_expectations(alloc, expectations_text) {
+    match read_expectations(alloc, expectations_text, &program, finals) {
         Ok(expectations) => Ok(LitmusInput {
             program,
             expectations,
@@ -64,46 +65,59 @@ fn texts(
     alloc: Global,
     program_text: &[u8],
     expectations_text: &[u8],
+    finals: bool,
 ) -> Result<LitmusInput, InputFault<LitmusRule>>
     requires { length program_text.now < 2 ^ 32 - 300 }
-    ensures answer { (input : List ℕ) → DividesLitmus input program_text.now expectations_text.now → IsLitmusAnswer input result }
+    ensures answer { (input : List ℕ) → DividesLitmus input program_text.now expectations_text.now → IsLitmusAnswer finals input result }
     ensures program { IfOk result (λ x. IsWellFormed x.program) }
 {
     match parse(alloc, program_text) {
-        Ok(program) => with_expectations(alloc, program, program_text, expectations_text),
+        Ok(program) => {
+            with_expectations(alloc, program, program_text, expectations_text, finals)
+        }
         Err(fault) => Err(input_fault(fault)),
     }
 }
 
 /// The program and the expectations of an input.
-fn read_input(alloc: Global, input: &[u8]) -> Result<LitmusInput, InputFault<LitmusRule>>
+fn read_input(
+    alloc: Global,
+    input: &[u8],
+    finals: bool,
+) -> Result<LitmusInput, InputFault<LitmusRule>>
     requires { length input.now < 2 ^ 32 - 300 }
-    ensures answer { IsLitmusAnswer input.now result }
+    ensures answer { IsLitmusAnswer finals input.now result }
     ensures program { IfOk result (λ x. IsWellFormed x.program) }
 {
     match divide_at_line(input, b"expect".as_slice()) {
-        Some((program_text, expectations_text)) => texts(alloc, program_text, expectations_text),
-        None => texts(alloc, input, &[]),
+        Some((program_text, expectations_text)) => {
+            texts(alloc, program_text, expectations_text, finals)
+        }
+        None => texts(alloc, input, &[], finals),
     }
 }
 
 /// What an input reads as, of fewer than 2^32 - 300 bytes, or its first refusal. The text of the program comes first, up to the
 /// first line that is exactly `expect`; then the expectations, at most [`crate::MOST_EXPECTATIONS`] lines of them. Where there is no
-/// such line the whole input is the program's text.
+/// such line the whole input is the program's text. Where `finals` says so, expectations may name last values of locations.
 ///
 /// # Errors
 /// The program's first refusal comes first. Then rule `X` is refused at the first line that is no expectation, or that is one
 /// too many. Lines are counted over the whole input.
-pub fn read_litmus(alloc: Global, input: &[u8]) -> Result<LitmusInput, InputFault<LitmusRule>>
+pub fn read_litmus(
+    alloc: Global,
+    input: &[u8],
+    finals: bool,
+) -> Result<LitmusInput, InputFault<LitmusRule>>
     requires { length input.now < 2 ^ 32 - 300 }
     // What is answered is what the input reads as; a refusal that is answered is the first.
-    ensures ok { IfOk result (λ x. ReadsLitmus input.now x.program x.expectations.items) }
+    ensures ok { IfOk result (λ x. ReadsLitmus finals input.now x.program x.expectations.items) }
     ensures program { IfOk result (λ x. IsWellFormed x.program) }
-    ensures refused { IfErr result (λ e. IfRefused e (λ r. IsFirstLitmusRefusal input.now r)) }
+    ensures refused { IfErr result (λ e. IfRefused e (λ r. IsFirstLitmusRefusal finals input.now r)) }
     // What the input reads as is answered, and so is its first refusal, unless memory runs out.
-    ensures only { (p : Program) (expectations : List Expected) → ReadsLitmus input.now p expectations
+    ensures only { (p : Program) (expectations : List Expected) → ReadsLitmus finals input.now p expectations
         → MatchResult result (λ x. (x.program ≡ p) × (x.expectations.items ≡ expectations)) (λ e. e ≡ InputFault.NoMemory) }
-    ensures exact { (r : Refusal LitmusRule) → IsFirstLitmusRefusal input.now r → MatchResult result (λ _. ⊥) (λ e. IfRefused e (λ q. q ≡ r)) }
+    ensures exact { (r : Refusal LitmusRule) → IsFirstLitmusRefusal finals input.now r → MatchResult result (λ _. ⊥) (λ e. IfRefused e (λ q. q ≡ r)) }
 {
-    read_input(alloc, input)
+    read_input(alloc, input, finals)
 }

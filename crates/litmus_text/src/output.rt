@@ -6,9 +6,9 @@ ghost use Rattle.journal_text.specs.Report.{end_line, entry_lines};
 ghost use Rattle.std.specs.List.{list_any};
 ghost use Rattle.litmus.specs.Outcome.{same_outcome};
 ghost use Rattle.text_parts.specs.Lines.{whole_line};
-ghost use Rattle.litmus_text.specs.Output.{are_met, sample_line, is_met, outcome_text, printed_line, printed_lines, titled_entries, verdict_line, verdict_lines, wanted};
+ghost use Rattle.litmus_text.specs.Output.{are_met, sample_line, is_met, outcome_text, output_named, outputs_named, printed_line, printed_lines, titled_entries, verdict, verdict_line, verdict_lines, wanted};
 
-use crate::expectation::Expectation;
+use crate::expectation::{Expectation, ExpectedWord};
 use il_syntax::Program;
 use itoa::Buffer;
 use journal_text::{push, push_blank, push_entry, push_signed};
@@ -113,15 +113,45 @@ pub fn push_outcome(
     Ok(())
 }
 
-/// The outcome that an expectation speaks of.
-fn wanted(alloc: Global, e: &Expectation) -> Result<RunOutcome, NoMemory>
+/// Puts the output of a word to the end.
+fn push_named(out: &mut Vec<Printed>, word: &ExpectedWord) -> Result<(), AllocError>
+    ensures { OnOk result (out.new.items ≡ out.old.items ++ output_named word.now) }
+{
+    match word {
+        ExpectedWord::Output { output } => out.push(*output)?,
+        ExpectedWord::Last { .. } => {}
+    }
+    Ok(())
+}
+
+/// The outputs of the words, in their order.
+fn outputs_named(alloc: Global, words: &[ExpectedWord]) -> Result<Vec<Printed>, AllocError>
+    ensures { IfOk result (λ out. out.items ≡ outputs_named words.now) }
+{
+    let mut out = Vec::new(alloc);
+    for word in words {
+        push_named(&mut out, word)?;
+    }
+    Ok(out)
+}
+
+/// What an expectation says of the ending and of the outputs. The only error is want of memory.
+pub fn wanted(alloc: Global, e: &Expectation) -> Result<RunOutcome, NoMemory>
     ensures { IfOk result (λ o. o ≡ wanted e.now) }
 {
-    let outputs = ordered_outputs(alloc, e.outputs.as_slice())?;
+    let named = outputs_named(alloc, e.words.as_slice())?;
+    let outputs = ordered_outputs(alloc, named.as_slice())?;
     Ok(RunOutcome {
         ending: Ending::Done,
         outputs,
     })
+}
+
+/// Whether an expectation is met, where there is what it speaks of or isn't.
+pub fn verdict(e: &Expectation, there: bool) -> bool
+    ensures { result ≡ verdict e.now there }
+{
+    if e.some { there } else { !there }
 }
 
 /// Whether an outcome is one of these.
@@ -131,13 +161,12 @@ fn is_among(outcomes: &[RunOutcome], wanted: &RunOutcome) -> bool
     outcomes.iter().any(|o| same_outcome(wanted, o))
 }
 
-/// Whether an expectation is met by these outcomes. The only error is want of memory.
+/// Whether an expectation that names no last values is met by these outcomes. The only error is want of memory.
 pub fn is_met(alloc: Global, e: &Expectation, outcomes: &[RunOutcome]) -> Result<bool, NoMemory>
-    ensures { IfOk result (λ met. met ≡ is_met e.now outcomes.now) }
+    ensures { IfOk result (λ met. met ≡ is_met outcomes.now e.now) }
 {
     let wanted = wanted(alloc, e)?;
-    let found = is_among(outcomes, &wanted);
-    if e.some { Ok(found) } else { Ok(!found) }
+    Ok(verdict(e, is_among(outcomes, &wanted)))
 }
 
 /// Puts the line of an expectation that is met, or isn't, to the end.
@@ -152,15 +181,16 @@ pub fn push_verdict(out: &mut Vec<u8>, met: bool) -> Result<(), NoMemory>
     Ok(())
 }
 
-/// Puts a line for each expectation to the end, and tells whether all are met by these outcomes. The only error is want of memory.
+/// Puts a line for each expectation to the end, and tells whether all are met by these outcomes. They name no last values. The only
+/// error is want of memory.
 pub fn push_verdicts(
     alloc: Global,
     out: &mut Vec<u8>,
     expectations: &[Expectation],
     outcomes: &[RunOutcome],
 ) -> Result<bool, NoMemory>
-    ensures written { OnOk result (out.new.items ≡ out.old.items ++ verdict_lines expectations.now outcomes.now) }
-    ensures met { IfOk result (λ met. met ≡ are_met expectations.now outcomes.now) }
+    ensures written { OnOk result (out.new.items ≡ out.old.items ++ verdict_lines (is_met outcomes.now) expectations.now) }
+    ensures met { IfOk result (λ met. met ≡ are_met (is_met outcomes.now) expectations.now) }
 {
     let mut all = true;
     for expectation in expectations {

@@ -1,5 +1,5 @@
 mod Printing
-mod Judging
+mod Verdicts
 mod Lines
 mod Answered
 pub mod Callers

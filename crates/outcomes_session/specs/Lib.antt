@@ -1,4 +1,5 @@
 pub mod Output
+pub mod Judging
 pub mod Session
 pub mod Telling
 pub mod Laws

@@ -1,5 +1,5 @@
 -- What is answered to an input.
-use Rattle.std.specs.Prelude.{◌≡◌, ℕ, ◌≤◌, ◌++◌, Bool, List, length, map}
+use Rattle.std.specs.Prelude.{◌≡◌, ℕ, ◌≤◌, ◌++◌, Bool, true, List, length, map}
 use Rattle.std.specs.List.{AllByRecursion, Contains, flat_map}
 use Rattle.il_syntax.specs.declared.program.Program.{Program}
 use Rattle.il_reader.specs.Refusal.{Refusal}
@@ -14,6 +14,7 @@ use Rattle.outcome_search.specs.Runs.{HasMoreNodes}
 use Rattle.outcome_list.specs.List.{IsFound, found_outcome}
 use Rattle.outcome_list.specs.Order.{AreOutcomesRising}
 use Rattle.outcome_list.specs.declared.found.Found.{Found}
+use Rattle.outcomes_session.specs.Judging.{is_met_by}
 use Rattle.outcomes_session.specs.Output.{outcomes_line, found_text}
 use Rattle.outcomes_session.specs.declared.answer.OutcomesAnswer.{OutcomesAnswer}
 use Rattle.outcomes_session.specs.declared.answer.OutcomesAnswer.TheVariants.{Refused, TooMany, Told}
@@ -39,13 +40,13 @@ told_outcomes p list = map (λ f. outcome_in f.journal (length p.threads)) list
 pub record IsToldOf (p : Program) (expectations : List Expected) (steps : ℕ) (text : Text) (met : Bool) : Type 0 where
   pub list : List Found
   pub outcomes : AreAllOutcomes p steps list
-  pub written : text ≡ flat_map (found_text p) list ++ (verdict_lines expectations (told_outcomes p list) ++ whole_line (outcomes_line (length list)))
-  pub all : met ≡ are_met expectations (told_outcomes p list)
+  pub written : text ≡ flat_map (found_text p) list ++ (verdict_lines (is_met_by p list) expectations ++ whole_line (outcomes_line (length list)))
+  pub all : met ≡ are_met (is_met_by p list) expectations
 
 -- The answer: the first refusal of the input; or that its program has more nodes than the search may come to; or, where it
 -- hasn't, what is written of its outcomes and its expectations.
 pub data IsOutcomesSession (input : Text) (steps states : ℕ) (answer : OutcomesAnswer) : Type 0 where
-  unread : (r : Refusal LitmusRule) → IsFirstLitmusRefusal input r → answer ≡ Refused r.rule r.line r.column → IsOutcomesSession input steps states answer
-  too_many : (p : Program) (expectations : List Expected) → ReadsLitmus input p expectations → HasMoreNodes p steps states → answer ≡ TooMany → IsOutcomesSession input steps states answer
-  told : (p : Program) (expectations : List Expected) (text : Text) (met : Bool) → ReadsLitmus input p expectations → (HasMoreNodes p steps states → ⊥) → IsToldOf p expectations steps text met
+  unread : (r : Refusal LitmusRule) → IsFirstLitmusRefusal true input r → answer ≡ Refused r.rule r.line r.column → IsOutcomesSession input steps states answer
+  too_many : (p : Program) (expectations : List Expected) → ReadsLitmus true input p expectations → HasMoreNodes p steps states → answer ≡ TooMany → IsOutcomesSession input steps states answer
+  told : (p : Program) (expectations : List Expected) (text : Text) (met : Bool) → ReadsLitmus true input p expectations → (HasMoreNodes p steps states → ⊥) → IsToldOf p expectations steps text met
       → answer ≡ Told text met → IsOutcomesSession input steps states answer

@@ -39,7 +39,7 @@ pub fn outcomes_answer(
     requires condition { HasOutcomesCondition steps states }
     ensures { IfOk result (λ a. IsOutcomesSession input.now steps states a) }
 {
-    match read_litmus(alloc, input) {
+    match read_litmus(alloc, input, true) {
         Ok(read) => match tell(
             alloc,
             &read.program,

@@ -8,10 +8,11 @@ ghost use Rattle.outcomes_session.specs.Session.{AreAllOutcomes, HasOutcomesCond
 ghost use Rattle.outcomes_session.specs.Telling.{IsTelling};
 
 use crate::found::outcomes;
+use crate::judging::push_judged;
 use crate::text::{push_count, push_found};
 use il_syntax::Program;
 use litmus::{RunOutcome, outcome_of};
-use litmus_text::{Expectation, push_verdicts};
+use litmus_text::Expectation;
 use outcome_list::Found;
 use outcome_search::Stop;
 use std::alloc::Global;
@@ -62,7 +63,8 @@ fn tell_list(
     ensures { (steps states : ℕ) → AreAllOutcomes p.now steps list.now → (HasMoreNodes p.now steps states → ⊥) → IfOk result (λ t. IsTelling p.now expectations.now steps states t) }
 {
     let Written { mut text, outcomes } = write_all(alloc, p, list)?;
-    let met = push_verdicts(alloc, &mut text, expectations, outcomes.as_slice())?;
+    let come = outcomes.as_slice();
+    let met = push_judged(alloc, &mut text, p, expectations, list, come)?;
     push_count(&mut text, list.len())?;
     Ok(Telling::Told {
         text: Bytes { bytes: text },

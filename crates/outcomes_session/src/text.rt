@@ -15,7 +15,7 @@ use std::alloc::AllocError;
 use values_undef::{Ending, NoMemory, Val};
 
 /// The value of this place, or none where there is no such place.
-fn value_at(values: &[Val], at: usize) -> Val
+pub(crate) fn value_at(values: &[Val], at: usize) -> Val
     ensures { result ≡ slice_index_or values.now at Val.Undef }
 {
     match values.get(at) {

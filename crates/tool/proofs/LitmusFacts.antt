@@ -35,22 +35,22 @@ module _ (seed seeds steps : ℕ) (bytes : List ℕ) where
   outputs out s x = outputs_by x.answer out s x.written
 
   works_by : (a : LitmusAnswer) (out : List ℕ) (s : Status) → IsLitmusSession bytes seed seeds steps a → IsWrittenLitmus a out s
-      → (p : Program) × (expectations : List Expected) × ReadsLitmus bytes p expectations → IsLitmusStatus s
-  works_by a out s (unread r first is) written input = absurd (input_unrefused bytes input.0 input.1 r input.2 first)
+      → (p : Program) × (expectations : List Expected) × ReadsLitmus false bytes p expectations → IsLitmusStatus s
+  works_by a out s (unread r first is) written input = absurd (input_unrefused false bytes input.0 input.1 r input.2 first)
   works_by a out s (judged p es text met reads j is) written input =
       let h = subst (λ (b : LitmusAnswer). IsWrittenLitmus b out s) is written in
       subst IsLitmusStatus (sym h.1) (verdict_works met)
 
-  works : (out : List ℕ) (s : Status) → IsLitmusOutput seed seeds steps bytes out s → (p : Program) × (expectations : List Expected) × ReadsLitmus bytes p expectations → IsLitmusStatus s
+  works : (out : List ℕ) (s : Status) → IsLitmusOutput seed seeds steps bytes out s → (p : Program) × (expectations : List Expected) × ReadsLitmus false bytes p expectations → IsLitmusStatus s
   works out s x input = works_by x.answer out s x.answers x.written input
 
-  refuses_by : (a : LitmusAnswer) (out : List ℕ) (s : Status) → IsLitmusSession bytes seed seeds steps a → IsWrittenLitmus a out s → (r : Refusal LitmusRule) × IsFirstLitmusRefusal bytes r → IsRefusalStatus s
+  refuses_by : (a : LitmusAnswer) (out : List ℕ) (s : Status) → IsLitmusSession bytes seed seeds steps a → IsWrittenLitmus a out s → (r : Refusal LitmusRule) × IsFirstLitmusRefusal false bytes r → IsRefusalStatus s
   refuses_by a out s (unread r first is) written input =
       let h = subst (λ (b : LitmusAnswer). IsWrittenLitmus b out s) is written in
       inl h.1
-  refuses_by a out s (judged p es text met reads j is) written input = absurd (input_unrefused bytes p es input.0 reads input.1)
+  refuses_by a out s (judged p es text met reads j is) written input = absurd (input_unrefused false bytes p es input.0 reads input.1)
 
-  refuses : (out : List ℕ) (s : Status) → IsLitmusOutput seed seeds steps bytes out s → (r : Refusal LitmusRule) × IsFirstLitmusRefusal bytes r → IsRefusalStatus s
+  refuses : (out : List ℕ) (s : Status) → IsLitmusOutput seed seeds steps bytes out s → (r : Refusal LitmusRule) × IsFirstLitmusRefusal false bytes r → IsRefusalStatus s
   refuses out s x input = refuses_by x.answer out s x.answers x.written input
 
 pub litmus_facts : (seed seeds steps : ℕ) → CommandFacts (litmus_meaning seed seeds steps)

@@ -37,24 +37,24 @@ module _ (steps states : ℕ) (bytes : List ℕ) where
   outputs out s x = outputs_by x.answer out s x.written
 
   works_by : (a : OutcomesAnswer) (out : List ℕ) (s : Status) → IsOutcomesSession bytes steps states a → IsWrittenOutcomes a out s
-      → (p : Program) × (expectations : List Expected) × ReadsLitmus bytes p expectations → IsOutcomesStatus s
-  works_by a out s (unread r first is) written input = absurd (input_unrefused bytes input.0 input.1 r input.2 first)
+      → (p : Program) × (expectations : List Expected) × ReadsLitmus true bytes p expectations → IsOutcomesStatus s
+  works_by a out s (unread r first is) written input = absurd (input_unrefused true bytes input.0 input.1 r input.2 first)
   works_by a out s (too_many p es reads more is) written input = inr (inr (inl (subst (λ (b : OutcomesAnswer). IsWrittenOutcomes b out s) is written).1))
   works_by a out s (told p es text met reads few h is) written input =
       let k = subst (λ (b : OutcomesAnswer). IsWrittenOutcomes b out s) is written in
       subst IsOutcomesStatus (sym k.1) (verdict_works met)
 
-  works : (out : List ℕ) (s : Status) → IsOutcomesOutput steps states bytes out s → (p : Program) × (expectations : List Expected) × ReadsLitmus bytes p expectations → IsOutcomesStatus s
+  works : (out : List ℕ) (s : Status) → IsOutcomesOutput steps states bytes out s → (p : Program) × (expectations : List Expected) × ReadsLitmus true bytes p expectations → IsOutcomesStatus s
   works out s x input = works_by x.answer out s x.answers x.written input
 
-  refuses_by : (a : OutcomesAnswer) (out : List ℕ) (s : Status) → IsOutcomesSession bytes steps states a → IsWrittenOutcomes a out s → (r : Refusal LitmusRule) × IsFirstLitmusRefusal bytes r → IsRefusalStatus s
+  refuses_by : (a : OutcomesAnswer) (out : List ℕ) (s : Status) → IsOutcomesSession bytes steps states a → IsWrittenOutcomes a out s → (r : Refusal LitmusRule) × IsFirstLitmusRefusal true bytes r → IsRefusalStatus s
   refuses_by a out s (unread r first is) written input =
       let h = subst (λ (b : OutcomesAnswer). IsWrittenOutcomes b out s) is written in
       inl h.1
-  refuses_by a out s (too_many p es reads more is) written input = absurd (input_unrefused bytes p es input.0 reads input.1)
-  refuses_by a out s (told p es text met reads few h is) written input = absurd (input_unrefused bytes p es input.0 reads input.1)
+  refuses_by a out s (too_many p es reads more is) written input = absurd (input_unrefused true bytes p es input.0 reads input.1)
+  refuses_by a out s (told p es text met reads few h is) written input = absurd (input_unrefused true bytes p es input.0 reads input.1)
 
-  refuses : (out : List ℕ) (s : Status) → IsOutcomesOutput steps states bytes out s → (r : Refusal LitmusRule) × IsFirstLitmusRefusal bytes r → IsRefusalStatus s
+  refuses : (out : List ℕ) (s : Status) → IsOutcomesOutput steps states bytes out s → (r : Refusal LitmusRule) × IsFirstLitmusRefusal true bytes r → IsRefusalStatus s
   refuses out s x input = refuses_by x.answer out s x.answers x.written input
 
 pub outcomes_facts : (steps states : ℕ) → CommandFacts (outcomes_meaning steps states)

@@ -37,7 +37,7 @@ litmus_meaning seed seeds steps = record {
   limit = Some text_limit;
   condition = HasLitmusCondition seed seeds steps;
   output = IsLitmusOutput seed seeds steps;
-  accepted = λ bytes. (p : Program) × (expectations : List Expected) × ReadsLitmus bytes p expectations;
-  refused = λ bytes. (r : Refusal LitmusRule) × IsFirstLitmusRefusal bytes r;
+  accepted = λ bytes. (p : Program) × (expectations : List Expected) × ReadsLitmus false bytes p expectations;
+  refused = λ bytes. (r : Refusal LitmusRule) × IsFirstLitmusRefusal false bytes r;
   works = λ s. (s ≡ status.Done) ⊎ ((s ≡ status.No) ⊎ (s ≡ status.NoMemory));
 }

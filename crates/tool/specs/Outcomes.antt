@@ -1,5 +1,5 @@
 -- `outcomes`: all outcomes of a program within a budget, and whether what is expected of them is met.
-use Rattle.std.specs.Prelude.{◌≡◌, ◌⊎◌, ℕ, false, List, Some, codes}
+use Rattle.std.specs.Prelude.{◌≡◌, ◌⊎◌, ℕ, true, false, List, Some, codes}
 use Rattle.il_syntax.specs.declared.program.Program.{Program}
 use Rattle.il_reader.specs.Refusal.{Refusal}
 use Rattle.litmus_text.specs.Expectation.{Expected}
@@ -35,7 +35,7 @@ outcomes_meaning steps states = record {
   limit = Some text_limit;
   condition = HasOutcomesCondition steps states;
   output = IsOutcomesOutput steps states;
-  accepted = λ bytes. (p : Program) × (expectations : List Expected) × ReadsLitmus bytes p expectations;
-  refused = λ bytes. (r : Refusal LitmusRule) × IsFirstLitmusRefusal bytes r;
+  accepted = λ bytes. (p : Program) × (expectations : List Expected) × ReadsLitmus true bytes p expectations;
+  refused = λ bytes. (r : Refusal LitmusRule) × IsFirstLitmusRefusal true bytes r;
   works = λ s. (s ≡ status.Done) ⊎ ((s ≡ status.No) ⊎ ((s ≡ status.Input) ⊎ (s ≡ status.NoMemory)));
 }

@@ -7,12 +7,12 @@ use Rattle.litmus_text.proofs.input.read_litmus.Goals as goal
 pub returns-clause-only : goal.returns-clause-only
 returns-clause-only c p expectations reads =
     let input = c.args.input.now in
-    only (λ x. ReadsLitmus input x.program x.expectations.items) (IsFirstLitmusRefusal input) (λ x. (x.program ≡ p) × (x.expectations.items ≡ expectations))
-    (λ x other. one_input input x.program p x.expectations.items expectations other reads) (λ r refused. input_unrefused input p expectations r reads refused) c.read_input.result
+    only (λ x. ReadsLitmus c.args.finals input x.program x.expectations.items) (IsFirstLitmusRefusal c.args.finals input) (λ x. (x.program ≡ p) × (x.expectations.items ≡ expectations))
+    (λ x other. one_input c.args.finals input x.program p x.expectations.items expectations other reads) (λ r refused. input_unrefused c.args.finals input p expectations r reads refused) c.read_input.result
     c.read_input.ensures.answer
 
 pub returns-clause-exact : goal.returns-clause-exact
 returns-clause-exact c r refused =
     let input = c.args.input.now in
-    exact (λ x. ReadsLitmus input x.program x.expectations.items) (IsFirstLitmusRefusal input) r (λ x reads. input_unrefused input x.program x.expectations.items r reads refused)
-    (λ q other. one_refusal input q r other refused) c.read_input.result c.read_input.ensures.answer
+    exact (λ x. ReadsLitmus c.args.finals input x.program x.expectations.items) (IsFirstLitmusRefusal c.args.finals input) r (λ x reads. input_unrefused c.args.finals input x.program x.expectations.items r reads refused)
+    (λ q other. one_refusal c.args.finals input q r other refused) c.read_input.result c.read_input.ensures.answer
