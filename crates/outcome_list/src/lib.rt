@@ -13,7 +13,7 @@ mod order;
 mod outcome;
 mod values;
 
-pub use covering::refines;
+pub use covering::{has_spent, refines};
 pub use found::{Found, Outcome};
 pub use list::listed;
 pub use order::compare;
