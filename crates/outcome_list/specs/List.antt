@@ -72,5 +72,5 @@ abbrev pub is_missed : List Found → Found → Bool
 is_missed source f = not (is_spent_ending (found_outcome f).ending) && not (list_any (λ g. covers (found_outcome g) (found_outcome f)) source)
 
 -- some outcome of the list is spent
-abbrev pub has_spent : List Found → Bool
-has_spent list = list_any (λ f. is_spent_ending (found_outcome f).ending) list
+abbrev pub some_is_spent : List Found → Bool
+some_is_spent list = list_any (λ f. is_spent_ending (found_outcome f).ending) list

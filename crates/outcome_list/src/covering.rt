@@ -3,7 +3,7 @@ ghost use Rattle.std.specs.Prelude.{◌≡◌};
 ghost use Rattle.std.specs.List.{position, list_any, starts_with};
 ghost use Rattle.std.specs.Ordering.{int_eq};
 ghost use Rattle.std.specs.Cmp.Lexicographic.{pointwise};
-ghost use Rattle.outcome_list.specs.List.{covers, is_failed_ending, is_spent_ending, is_missed, found_outcome, has_spent};
+ghost use Rattle.outcome_list.specs.List.{covers, is_failed_ending, is_spent_ending, is_missed, found_outcome, some_is_spent};
 
 use crate::found::{Found, Outcome};
 use crate::order::compare;
@@ -69,8 +69,8 @@ pub fn refines(target: &[Found], source: &[Found]) -> Option<usize>
 }
 
 /// Whether some outcome of the list is spent.
-pub fn has_spent(list: &[Found]) -> bool
-    ensures { result ≡ has_spent list.now }
+pub fn some_is_spent(list: &[Found]) -> bool
+    ensures { result ≡ some_is_spent list.now }
 {
     list.iter().any(|f| is_spent_ending(f.outcome.ending))
 }

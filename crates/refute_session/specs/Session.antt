@@ -8,7 +8,7 @@ use Rattle.pair_text.specs.Reading.{ReadsPair, IsFirstPairRefusal}
 use Rattle.pair_text.specs.declared.fault.PairRule.{PairRule}
 use Rattle.validator.specs.Shape.{SameShape}
 use Rattle.outcome_search.specs.Runs.{HasMoreNodes}
-use Rattle.outcome_list.specs.List.{has_spent, is_missed}
+use Rattle.outcome_list.specs.List.{some_is_spent, is_missed}
 use Rattle.outcome_list.specs.declared.found.Found.{Found}
 use Rattle.outcomes_session.specs.Output.{found_text}
 use Rattle.outcomes_session.specs.Session.{AreAllOutcomes}
@@ -31,24 +31,31 @@ unknown_text p f = whole_line (codes "unknown") ++ found_text p f
 
 -- What is answered of the outcomes of both: none of the target's is missed; or the first that is, where no run of the source is spent;
 -- or else that first one, which a longer run of the source may have.
-pub data IsVerdict (target : Program) (source_list target_list : List Found) (answer : RefuteAnswer) : Type 0 where
-  none : position (is_missed source_list) target_list ≡ None → answer ≡ Refines → IsVerdict target source_list target_list answer
-  missed : (f : Found) → IsFirstMissed source_list target_list f → has_spent source_list ≡ false → answer ≡ Missed (missed_text target f)
-      → IsVerdict target source_list target_list answer
-  unknown : (f : Found) → IsFirstMissed source_list target_list f → has_spent source_list ≡ true → answer ≡ Unknown (unknown_text target f)
-      → IsVerdict target source_list target_list answer
+pub data IsRefuteVerdict (target : Program) (source_list target_list : List Found) (answer : RefuteAnswer) : Type 0 where
+  none : position (is_missed source_list) target_list ≡ None → answer ≡ Refines → IsRefuteVerdict target source_list target_list answer
+  missed : (f : Found) → IsFirstMissed source_list target_list f → some_is_spent source_list ≡ false → answer ≡ Missed (missed_text target f)
+      → IsRefuteVerdict target source_list target_list answer
+  unknown : (f : Found) → IsFirstMissed source_list target_list f → some_is_spent source_list ≡ true → answer ≡ Unknown (unknown_text target f)
+      → IsRefuteVerdict target source_list target_list answer
+
+-- What is answered of a target, where these are the outcomes of its source: it has more nodes than the search may come to; or it is
+-- what is answered of all its outcomes.
+pub data IsAgainst (source_list : List Found) (target : Program) (steps states : ℕ) (answer : RefuteAnswer) : Type 0 where
+  target_too_many : HasMoreNodes target steps states → answer ≡ TooMany → IsAgainst source_list target steps states answer
+  target_listed : (target_list : List Found) → (HasMoreNodes target steps states → ⊥) → AreAllOutcomes target steps target_list
+      → IsRefuteVerdict target source_list target_list answer → IsAgainst source_list target steps states answer
 
 -- What is answered of two programs: they are of other shapes; or one of them has more nodes than the search may come to; or it is
 -- what is answered of all their outcomes.
-pub data IsPairAnswer (source target : Program) (steps states : ℕ) (answer : RefuteAnswer) : Type 0 where
-  other_shape : (SameShape source target → ⊥) → answer ≡ OtherShape → IsPairAnswer source target steps states answer
+pub data IsRefuteAnswer (source target : Program) (steps states : ℕ) (answer : RefuteAnswer) : Type 0 where
+  other_shape : (SameShape source target → ⊥) → answer ≡ OtherShape → IsRefuteAnswer source target steps states answer
   too_many : SameShape source target → HasMoreNodes source steps states ⊎ HasMoreNodes target steps states → answer ≡ TooMany
-      → IsPairAnswer source target steps states answer
+      → IsRefuteAnswer source target steps states answer
   compared : (source_list target_list : List Found) → SameShape source target → (HasMoreNodes source steps states → ⊥)
       → (HasMoreNodes target steps states → ⊥) → AreAllOutcomes source steps source_list → AreAllOutcomes target steps target_list
-      → IsVerdict target source_list target_list answer → IsPairAnswer source target steps states answer
+      → IsRefuteVerdict target source_list target_list answer → IsRefuteAnswer source target steps states answer
 
 -- The answer: the first refusal of the input, or what is answered of its two programs.
 pub data IsRefuteSession (input : Text) (steps states : ℕ) (answer : RefuteAnswer) : Type 0 where
   unread : (r : Refusal PairRule) → IsFirstPairRefusal input r → answer ≡ Refused r.rule r.line r.column → IsRefuteSession input steps states answer
-  read : (source target : Program) → ReadsPair input source target → IsPairAnswer source target steps states answer → IsRefuteSession input steps states answer
+  read : (source target : Program) → ReadsPair input source target → IsRefuteAnswer source target steps states answer → IsRefuteSession input steps states answer

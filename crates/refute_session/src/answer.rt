@@ -25,9 +25,13 @@ pub enum RefuteAnswer {
     /// No outcome of the target is missed.
     Refines,
     /// The first outcome of the target that is missed is written, and no run of the source is spent.
-    Missed { text: Bytes },
+    Missed {
+        text: Bytes,
+    },
     /// The first outcome of the target that is missed is written, but some run of the source is spent, so a longer one may have it.
-    Unknown { text: Bytes },
+    Unknown {
+        text: Bytes,
+    },
 }
 
 /// The answer to an input of fewer than 2^32 - 1 bytes: its first refusal; or that its programs are of another shape, or that one of

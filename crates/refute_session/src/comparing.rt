@@ -3,13 +3,13 @@ ghost use Rattle.std.specs.Prelude.{◌≡◌, ◌++◌, ◌<◌, ◌^◌, IfOk,
 ghost use Rattle.il_syntax.specs.WellFormed.{IsWellFormed};
 ghost use Rattle.outcomes_session.specs.Output.{found_text};
 ghost use Rattle.outcomes_session.specs.Session.{HasOutcomesCondition};
-ghost use Rattle.refute_session.specs.Session.{IsAgainst, IsPairAnswer, IsVerdict, missed_text, unknown_text};
+ghost use Rattle.refute_session.specs.Session.{IsAgainst, IsRefuteAnswer, IsRefuteVerdict, missed_text, unknown_text};
 
 use crate::answer::RefuteAnswer;
 use il_syntax::Program;
 use journal_text::push;
 use litmus::outcome_of;
-use outcome_list::{Found, has_spent, refines};
+use outcome_list::{Found, refines, some_is_spent};
 use outcome_search::Stop;
 use outcomes_session::{outcomes, push_found};
 use std::alloc::Global;
@@ -68,13 +68,13 @@ fn verdict(
     requires na { length target.now.na < 2 ^ 32 }
     requires atomic { length target.now.atomic < 2 ^ 32 }
     requires threads { length target.now.threads < 2 ^ 32 }
-    ensures { IfOk result (λ a. IsVerdict target.now source_list.now target_list.now a) }
+    ensures { IfOk result (λ a. IsRefuteVerdict target.now source_list.now target_list.now a) }
 {
     let Some(at) = refines(target_list, source_list) else {
         return Ok(RefuteAnswer::Refines);
     };
     let found = &target_list[at];
-    if has_spent(source_list) {
+    if some_is_spent(source_list) {
         let text = unknown(alloc, target, found)?;
         Ok(RefuteAnswer::Unknown { text })
     } else {
@@ -113,7 +113,7 @@ pub(crate) fn compared(
     requires source { IsWellFormed source.now }
     requires target { IsWellFormed target.now }
     requires condition { HasOutcomesCondition steps states }
-    ensures { IfOk result (λ a. IsPairAnswer source.now target.now steps states a) }
+    ensures { IfOk result (λ a. IsRefuteAnswer source.now target.now steps states a) }
 {
     if !same_shape(source, target) {
         return Ok(RefuteAnswer::OtherShape);
