@@ -1,7 +1,8 @@
 -- What an answer says of the input.
-use Rattle.std.proofs.Common.{◌≡◌, ◌⊎◌, inl, inr, ℕ, true, false, Some, None, List, refl, sym, subst}
-use Rattle.std.specs.Prelude.{slice_get}
+use Rattle.std.proofs.Common.{◌≡◌, ◌⊎◌, ◌∙◌, inr, ℕ, true, false, Option, Some, List, get_or, ap, refl, sym, subst}
 use Rattle.std.specs.List.{position}
+use Rattle.std.proofs.lemmas.List.Quantifiers.{position-Some}
+use Rattle.std.proofs.lemmas.Option.{slice_get-get_or}
 use Rattle.il_syntax.specs.declared.program.Program.{Program}
 use Rattle.il_reader.specs.Refusal.{Refusal, IfRefused}
 use Rattle.il_reader.specs.declared.fault.InputFault.{InputFault}
@@ -28,3 +29,24 @@ pub against_both : (source target : Program) (steps states : ℕ) (source_list :
     → IsAgainst source_list target steps states a → IsRefuteAnswer source target steps states a
 against_both source target steps states source_list a shape few all (target_too_many more is) = too_many shape (inr more) is
 against_both source target steps states source_list a shape few all (target_listed target_list few' all' h) = compared source_list target_list shape few few' all all' h
+
+pub verdict_against : (source_list : List Found) (target : Program) (steps states : ℕ) (target_list : List Found) (a : RefuteAnswer) → (HasMoreNodes target steps states → ⊥) → AreAllOutcomes target steps target_list
+    → IsRefuteVerdict target source_list target_list a → IsAgainst source_list target steps states a
+verdict_against source_list target steps states target_list a few all h = target_listed target_list few all h
+
+pub answer_read : (input : Text) (steps states : ℕ) (source target : Program) (a : RefuteAnswer) → ReadsPair input source target → IsRefuteAnswer source target steps states a → IsRefuteSession input steps states a
+answer_read input steps states source target a reads h = read source target reads h
+
+pub first_missed : (source_list target_list : List Found) (k : ℕ) (f : Found) (r : Option ℕ) → r ≡ position (is_missed source_list) target_list → r ≡ Some k → f ≡ get_or target_list k f → IsFirstMissed source_list target_list f
+first_missed source_list target_list k f r told is there =
+    let first = sym told ∙ is in
+    let inside = (position-Some (is_missed source_list) target_list k f first).0 in
+    record { at = k; first = first; there = slice_get-get_or target_list k f inside ∙ sym (ap (λ (g : Found). Some g) there) }
+
+pub missed_verdict : (target : Program) (source_list target_list : List Found) (f : Found) (text : Text) → IsFirstMissed source_list target_list f → some_is_spent source_list ≡ false → text ≡ missed_text target f
+    → IsRefuteVerdict target source_list target_list (Missed text)
+missed_verdict target source_list target_list f text first h is = missed f first h (ap (λ (t : Text). Missed t) is)
+
+pub unknown_verdict : (target : Program) (source_list target_list : List Found) (f : Found) (text : Text) → IsFirstMissed source_list target_list f → some_is_spent source_list ≡ true → text ≡ unknown_text target f
+    → IsRefuteVerdict target source_list target_list (Unknown text)
+unknown_verdict target source_list target_list f text first h is = unknown f first h (ap (λ (t : Text). Unknown t) is)

@@ -1,8 +1,9 @@
 -- What is known of the outcomes of a list.
-use Rattle.std.proofs.Common.{◌≡◌, ◌∙◌, ⊎_elim, ℕ, zero, suc, ◌+◌, ◌<◌, ◌≤◌, Bool, true, false, cond, not, Option, Some, None, List, [], ◌∷◌, length, map, get_or, refl, sym, ap, subst, arith, common_steps}
+use Rattle.std.proofs.Common.{◌≡◌, ◌∙◌, ⊎_elim, ℕ, zero, suc, ◌+◌, ◌<◌, ◌≤◌, Bool, true, false, cond, not, Option, Some, None, List, [], ◌∷◌, length, map, get_or, refl, sym, ap, subst, arith}
 use Rattle.std.specs.Prelude.{◌||◌, slice_get}
 use Rattle.std.specs.List.{AllByRecursion, list_any, position, position_or_len}
 use Rattle.std.proofs.lemmas.Bool.{cases_Bool, false≢true}
+use Rattle.std.proofs.lemmas.Grind.{common_steps}
 use Rattle.std.proofs.lemmas.Option.{get_or_from_slice_get, none-some}
 use Rattle.std.proofs.lemmas.List.Quantifiers.{position-Some}
 use Rattle.outcome_nodes.specs.Outcome.{FinalOutcome}
@@ -12,15 +13,16 @@ use Rattle.outcome_list.specs.declared.found.Found.{Found}
 -- where no place of a list passes, each of its elements fails
 fails_below : {X : Type 0} (p : X → Bool) (xs : List X) → length xs ≤ position_or_len p xs → AllByRecursion (λ x. p x ≡ false) xs
 fails_below p [] e = tt
-fails_below p (x ∷ xs) e = go (p x) refl
-  where
-    go : (t : Bool) → p x ≡ t → (p x ≡ false) × AllByRecursion (λ x. p x ≡ false) xs
-    go true h =
-        let first : position_or_len p (x ∷ xs) ≡ 0 = ap (λ (t : Bool). cond (not t) (1 + position_or_len p xs) 0) h in
-        absurd (omega (arith, first, e))
-    go false h =
-        let later : position_or_len p (x ∷ xs) ≡ 1 + position_or_len p xs = ap (λ (t : Bool). cond (not t) (1 + position_or_len p xs) 0) h in
-        (h, fails_below p xs (omega (arith, later, e)))
+fails_below p (x ∷ xs) e =
+    ⊎_elim
+    (λ (h : p x ≡ true).
+    let first : position_or_len p (x ∷ xs) ≡ 0 = ap (λ (t : Bool). cond (not t) (1 + position_or_len p xs) 0) h in
+    absurd (omega (arith, first, e)))
+    (λ (h : p x ≡ false).
+    let later : position_or_len p (x ∷ xs) ≡ 1 + position_or_len p xs = ap (λ (t : Bool). cond (not t) (1 + position_or_len p xs) 0) h in
+    let y : (p x ≡ false) × AllByRecursion (λ x. p x ≡ false) xs = (h, fails_below p xs (omega (arith, later, e))) in
+    y)
+    (cases_Bool (p x))
 
 pub none_passes : {X : Type 0} (p : X → Bool) (xs : List X) → position p xs ≡ None → AllByRecursion (λ x. p x ≡ false) xs
 none_passes p xs e = fails_below p xs (grind (arith, common_steps))
