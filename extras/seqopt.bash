@@ -2,7 +2,7 @@
 _seqopt() {
   local word=${COMP_WORDS[COMP_CWORD]} options=
   if ((COMP_CWORD == 1)); then
-    options='check opt tidy validate seq walk run replay graph litmus outcomes gen'
+    options='check opt tidy validate seq walk run replay graph litmus outcomes refute gen'
   elif [[ ${COMP_WORDS[COMP_CWORD - 1]} == --form ]]; then
     options='text summary'
   elif [[ $word == -* ]]; then
@@ -11,7 +11,7 @@ _seqopt() {
       tidy | walk) options='--order --picks --seed --steps' ;;
       run) options='--seed --steps' ;;
       litmus) options='--seed --seeds --steps' ;;
-      outcomes) options='--steps --states' ;;
+      outcomes | refute) options='--steps --states' ;;
       gen) options='--number --functions --form' ;;
     esac
   fi

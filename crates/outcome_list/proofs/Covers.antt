@@ -1,11 +1,11 @@
 -- When an outcome covers another.
-use Rattle.std.proofs.Common.{◌≡◌, ◌⊎◌, ◌↔◌, inl, inr, ⊎_elim, ◌∙◌, ◌&&◌, ◌++◌, ℤ, Bool, true, false, List, [], ◌∷◌, length, take, drop, refl, sym, ap, subst}
+use Rattle.std.proofs.Common.{◌≡◌, ◌⊎◌, ◌↔◌, inl, inr, ⊎_elim, ◌∙◌, ◌&&◌, not, ◌++◌, ℤ, Bool, true, false, List, [], ◌∷◌, length, take, drop, refl, sym, ap, subst}
 use Rattle.std.specs.Prelude.{◌||◌}
-use Rattle.std.specs.List.{AllZip, starts_with}
+use Rattle.std.specs.List.{AllByRecursion, AllZip, list_any, starts_with}
 use Rattle.std.specs.Ordering.{is_eq, int_eq}
 use Rattle.std.specs.Cmp.{Equal-is, signed_Decides, tied_itself}
 use Rattle.std.specs.Cmp.Lexicographic.{pointwise}
-use Rattle.std.proofs.lemmas.Bool.{and_parts, and_from, or_cases, false≢true}
+use Rattle.std.proofs.lemmas.Bool.{and_parts, and_from, or_cases, false≢true, true≢false, false_from_ne_true}
 use Rattle.std.proofs.lemmas.List.{take-append-drop}
 use Rattle.std.proofs.Math.Seq.{take-append_seam}
 use Rattle.std.proofs.lemmas.Slice.Eq.{slice_eq-Decides}
@@ -13,8 +13,9 @@ use Rattle.values_undef.specs.declared.journal.Ending.{Ending}
 use Rattle.values_undef.specs.declared.journal.Ending.TheVariants.{Done, Failed, Spent}
 use Rattle.outcome_nodes.specs.Outcome.{FinalOutcome}
 use Rattle.outcome_list.specs.Order.{outcome_cmp}
-use Rattle.outcome_list.specs.List.{covers, is_failed_ending}
-use Rattle.outcome_list.specs.Laws.{IsBeginning}
+use Rattle.outcome_list.specs.List.{covers, found_outcome, is_failed_ending, is_spent_ending}
+use Rattle.outcome_list.specs.Laws.{IsBeginning, MissedAsSaid}
+use Rattle.outcome_list.specs.declared.found.Found.{Found}
 use Rattle.outcome_list.proofs.Orders.{outcomes_total, outcomes_equal}
 
 abbrev begins : List ℤ → List ℤ → Bool
@@ -77,3 +78,38 @@ covers_as_said q o = (
       (and_from (is_failed_ending q.ending) (pointwise begins q.printed o.printed) (ap is_failed_ending begun.0) (all_test q.printed o.printed begun.1)))
       h),
 )
+
+-- ---- what is missed
+
+not_false : (b : Bool) → not b ≡ true → b ≡ false
+not_false true h = absurd (false≢true h)
+not_false false h = refl
+
+spent_told : (e : Ending) → is_spent_ending e ≡ true → e ≡ Spent
+spent_told Done h = absurd (false≢true h)
+spent_told Failed h = absurd (false≢true h)
+spent_told Spent h = refl
+
+none_told : {X : Type 0} (p : X → Bool) (xs : List X) → list_any p xs ≡ false → AllByRecursion (λ x. p x ≡ false) xs
+none_told p [] h = tt
+none_told p (x ∷ xs) h = (
+  false_from_ne_true (p x) (λ e. true≢false (sym (or_left (p x) (list_any p xs) e) ∙ h)),
+  none_told p xs (false_from_ne_true (list_any p xs) (λ e. true≢false (sym (or_right (p x) (list_any p xs) e) ∙ h))),
+)
+
+none_tests : {X : Type 0} (p : X → Bool) (xs : List X) → AllByRecursion (λ x. p x ≡ false) xs → list_any p xs ≡ false
+none_tests p [] h = refl
+none_tests p (x ∷ xs) h = ap (λ (b : Bool). b || list_any p xs) h.0 ∙ none_tests p xs h.1
+
+pub missed_as_said : MissedAsSaid
+missed_as_said source f =
+    let test = λ (g : Found). covers (found_outcome g) (found_outcome f) in
+    let spent = is_spent_ending (found_outcome f).ending in (
+      (λ e.
+          let both = and_parts (not spent) (not (list_any test source)) e in
+          (λ is. true≢false (sym (ap is_spent_ending is) ∙ not_false spent both.0), none_told test source (not_false (list_any test source) both.1))),
+      (λ h.
+          and_from (not spent) (not (list_any test source))
+          (ap not (false_from_ne_true spent (λ e. h.0 (spent_told f.outcome.ending e))))
+          (ap not (none_tests test source h.1))),
+    )

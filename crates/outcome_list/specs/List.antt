@@ -55,11 +55,22 @@ is_failed_ending Done = false
 is_failed_ending Failed = true
 is_failed_ending Spent = false
 
+-- the run has come to the end of its budget
+abbrev pub is_spent_ending : Ending → Bool
+is_spent_ending Done = false
+is_spent_ending Failed = false
+is_spent_ending Spent = true
+
 -- The outcome q of the source covers the outcome o of the target: it is the same, or it has failed, and what each thread
 -- has printed in it is a beginning of what that thread has printed in o.
 abbrev pub covers : FinalOutcome → FinalOutcome → Bool
 covers q o = is_eq (outcome_cmp q o) || (is_failed_ending q.ending && pointwise (λ begun whole. starts_with int_eq whole begun) q.printed o.printed)
 
--- no outcome of the source covers that of the target
+-- The outcome of the target is done or failed, and no outcome of the source covers it. One that is spent says nothing of what a
+-- longer run comes to, so it is never missed.
 abbrev pub is_missed : List Found → Found → Bool
-is_missed source f = not (list_any (λ g. covers (found_outcome g) (found_outcome f)) source)
+is_missed source f = not (is_spent_ending (found_outcome f).ending) && not (list_any (λ g. covers (found_outcome g) (found_outcome f)) source)
+
+-- some outcome of the list is spent
+abbrev pub some_is_spent : List Found → Bool
+some_is_spent list = list_any (λ f. is_spent_ending (found_outcome f).ending) list

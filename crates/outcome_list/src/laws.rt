@@ -1,5 +1,5 @@
 //! Laws over the definitions, each the contract of a function that does nothing.
-ghost use Rattle.outcome_list.specs.Laws.{CoversAsSaid, OutcomesAreOrdered, OutcomesHaveTheirPlaces};
+ghost use Rattle.outcome_list.specs.Laws.{CoversAsSaid, MissedAsSaid, OutcomesAreOrdered, OutcomesHaveTheirPlaces};
 
 /// The order of outcomes is total, and outcomes at one place of it are equal.
 #[tactic(auto, using(crate::proofs::Orders::outcomes_total, crate::proofs::Orders::outcomes_equal))]
@@ -12,4 +12,10 @@ pub fn outcomes_are_ordered()
 #[tactic(auto, using(crate::proofs::Covers::covers_as_said))]
 pub fn failed_outcomes_cover_what_they_begin()
     ensures { CoversAsSaid }
+{}
+
+/// An outcome of the target is missed exactly where it isn't spent and no outcome of the source covers it.
+#[tactic(auto, using(crate::proofs::Covers::missed_as_said))]
+pub fn missed_outcomes_are_covered_by_none()
+    ensures { MissedAsSaid }
 {}

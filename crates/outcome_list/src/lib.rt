@@ -13,7 +13,7 @@ mod order;
 mod outcome;
 mod values;
 
-pub use covering::refines;
+pub use covering::{refines, some_is_spent};
 pub use found::{Found, Outcome};
 pub use list::listed;
 pub use order::compare;

@@ -10,14 +10,9 @@ use outcome_search::{Stop, complete_runs};
 use std::alloc::Global;
 use values_undef::NoMemory;
 
-/// All outcomes of the program, where each thread has so many steps, in their order. `TooMany` comes exactly where moves lead
-/// to more than `states` different nodes.
-pub(crate) fn outcomes(
-    alloc: Global,
-    p: &Program,
-    steps: u64,
-    states: u64,
-) -> Result<Vec<Found>, Stop>
+/// All outcomes of the program, where each thread has so many steps, in their order, each with a run that has it. `TooMany` comes
+/// exactly where moves lead to more than `states` different nodes; the only other error is want of memory.
+pub fn outcomes(alloc: Global, p: &Program, steps: u64, states: u64) -> Result<Vec<Found>, Stop>
     requires proper { IsProperProgram p.now }
     requires condition { HasOutcomesCondition steps states }
     ensures all { IfOk result (λ list. AreAllOutcomes p.now steps (list.items)) }

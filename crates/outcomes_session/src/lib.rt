@@ -13,3 +13,5 @@ mod telling;
 mod text;
 
 pub use answer::{OutcomesAnswer, outcomes_answer};
+pub use found::outcomes;
+pub use text::push_found;

@@ -79,8 +79,9 @@ fn push_final_lines(
     }
 }
 
-/// Puts an outcome to the end, which comes to this.
-pub(crate) fn push_found(
+/// Puts the text of an outcome to the end: its ending, its outputs by thread, the last values where it is done, and the journal. What
+/// the journal comes to is handed in, since callers need it too.
+pub fn push_found(
     out: &mut Vec<u8>,
     p: &Program,
     found: &Found,

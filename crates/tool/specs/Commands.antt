@@ -1,7 +1,7 @@
 -- The table of the commands: what each of them means.
 use Rattle.std.specs.Prelude.{◌≡◌, ℕ, true, false, List, Option}
 use Rattle.words.specs.declared.command.Command.{Command}
-use Rattle.words.specs.declared.command.Command.TheVariants.{Check, Opt, Tidy, Validate, Seq, Walk, Run, Replay, Graph, Litmus, Outcomes, Gen}
+use Rattle.words.specs.declared.command.Command.TheVariants.{Check, Opt, Tidy, Validate, Seq, Walk, Run, Replay, Graph, Litmus, Outcomes, Refute, Gen}
 use Rattle.tool.specs.declared.status.Status.{Status}
 use Rattle.tool.specs.Meaning.{CommandMeaning}
 use Rattle.tool.specs.Check.{check_meaning}
@@ -15,6 +15,7 @@ use Rattle.tool.specs.Replay.{replay_meaning}
 use Rattle.tool.specs.Graph.{graph_meaning}
 use Rattle.tool.specs.Litmus.{litmus_meaning}
 use Rattle.tool.specs.Outcomes.{outcomes_meaning}
+use Rattle.tool.specs.Refute.{refute_meaning}
 use Rattle.tool.specs.Gen.{gen_meaning}
 
 abbrev pub meaning_of : Command → CommandMeaning
@@ -29,6 +30,7 @@ meaning_of Replay = replay_meaning
 meaning_of Graph = graph_meaning
 meaning_of (Litmus seed seeds steps) = litmus_meaning seed seeds steps
 meaning_of (Outcomes steps states) = outcomes_meaning steps states
+meaning_of (Refute steps states) = refute_meaning steps states
 meaning_of (Gen number functions form) = gen_meaning number functions form
 
 -- the most bytes that the input of a command may have, where it reads any

@@ -10,6 +10,7 @@ mod exploring;
 mod generating;
 mod graphing;
 mod optimising;
+mod refuting;
 mod replaying;
 pub(crate) mod running;
 mod sampling;
@@ -39,7 +40,7 @@ pub(crate) fn limit(command: &Command) -> Option<u64>
         | Command::Run { .. }
         | Command::Litmus { .. }
         | Command::Outcomes { .. } => Some(TEXT_LIMIT),
-        Command::Validate | Command::Seq { .. } => Some(4_194_304),
+        Command::Validate | Command::Seq { .. } | Command::Refute { .. } => Some(4_194_304),
         Command::Replay | Command::Graph => Some(134_217_728),
         Command::Gen { .. } => None,
     }
@@ -80,6 +81,7 @@ pub(crate) fn output_of<R: Threads + Sync>(
             sampling::output(alloc, rt, *seed, *seeds, *steps, input)
         }
         Command::Outcomes { steps, states } => exploring::output(alloc, *steps, *states, input),
+        Command::Refute { steps, states } => refuting::output(alloc, *steps, *states, input),
         Command::Gen {
             number,
             functions,

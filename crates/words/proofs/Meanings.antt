@@ -19,14 +19,14 @@ use Rattle.clap.specs.declared.error.kind.ErrorKind.TheVariants as kind
 use Rattle.clap.specs.declared.parser.matches.ArgMatches.{ArgMatches}
 use Rattle.clap.specs.declared.parser.matches.ArgMatches.TheViews.{out-ArgMatches, out-SubCommand}
 use Rattle.il_syntax.specs.Name.{is_letter, is_word}
-use Rattle.words.specs.Commands.{CommandWords, commands, walk_options}
+use Rattle.words.specs.Commands.{CommandWords, commands, search_options, walk_options}
 use Rattle.words.specs.Reading.{ReadsCommand}
-use Rattle.words.specs.Meaning.{ListsNumbers, Means, GivesValues, GivesDraws, GivesWalk, GivesNumber, GivesNumbers, IsFormOf, SetsNumber, SetsWord, form_word, in_words, name_of, options_of}
+use Rattle.words.specs.Meaning.{ListsNumbers, Means, GivesValues, GivesDraws, GivesWalk, GivesFewSteps, GivesStates, GivesNumber, GivesNumbers, IsFormOf, SetsNumber, SetsWord, form_word, in_words, name_of, options_of}
 use Rattle.words.specs.Options.{Options, AllowsSettings, is_option, value_of}
 use Rattle.words.specs.Program.{clap_program, row_of}
 use Rattle.words.specs.Spelling.{Setting, WordText}
 use Rattle.words.specs.declared.command.Command.{Command}
-use Rattle.words.specs.declared.command.Command.TheVariants.{Check, Gen, Graph, Litmus, Opt, Outcomes, Replay, Run, Seq, Tidy, Validate, Walk}
+use Rattle.words.specs.declared.command.Command.TheVariants.{Check, Gen, Graph, Litmus, Opt, Outcomes, Refute, Replay, Run, Seq, Tidy, Validate, Walk}
 use Rattle.words.specs.declared.command.Drawing.{Drawing}
 use Rattle.words.specs.declared.command.Drawing.TheVariants.{Seed, Picks}
 use Rattle.words.specs.declared.command.Form.{Form}
@@ -172,6 +172,7 @@ listed Replay = record { found = refl; named = refl; no_dash = refl }
 listed Graph = record { found = refl; named = refl; no_dash = refl }
 listed (Litmus seed seeds steps) = record { found = refl; named = refl; no_dash = refl }
 listed (Outcomes steps states) = record { found = refl; named = refl; no_dash = refl }
+listed (Refute steps states) = record { found = refl; named = refl; no_dash = refl }
 listed (Gen number functions form) = record { found = refl; named = refl; no_dash = refl }
 
 -- a name of a list of options is that of the first, or of the rest
@@ -238,6 +239,18 @@ plain_walk order draws steps os s name value option is = first (option_cases (co
     first (inl same) = plain_list 15 (value_of (codes "order") os) order value (omega arith) s.0 (ap (λ n. value_of n os) same ∙ is)
     first (inr rest) = second (option_cases (codes "picks", false) ((codes "seed", false) ∷ ((codes "steps", false) ∷ [])) name rest)
 
+-- the settings of each command that searches
+plain_search : (steps states : ℕ) (os : List Setting) → GivesFewSteps os steps × GivesStates os states → PlainValues search_options os
+plain_search steps states os s name value option is = first (option_cases (codes "steps", false) ((codes "states", false) ∷ []) name option)
+  where
+    second : (codes "states" ≡ name) ⊎ (is_option [] name ≡ true) → IsPlain value
+    second (inl same) = plain_number 1 1048576 65536 states (value_of (codes "states") os) value (omega arith) s.1 (ap (λ n. value_of n os) same ∙ is)
+    second (inr none) = absurd cc
+
+    first : (codes "steps" ≡ name) ⊎ (is_option ((codes "states", false) ∷ []) name ≡ true) → IsPlain value
+    first (inl same) = plain_number 1 100 100 steps (value_of (codes "steps") os) value (omega arith) s.0 (ap (λ n. value_of n os) same ∙ is)
+    first (inr rest) = second (option_cases (codes "states", false) [] name rest)
+
 plain_settings : (c : Command) (os : List Setting) → GivesValues os c → PlainValues (options_of c) os
 plain_settings (Seq function) os s name value option is = first (option_cases (codes "function", true) [] name option)
   where
@@ -268,15 +281,8 @@ plain_settings (Litmus seed seeds steps) os s name value option is = first (opti
     first : (codes "seed" ≡ name) ⊎ (is_option ((codes "seeds", false) ∷ ((codes "steps", false) ∷ [])) name ≡ true) → IsPlain value
     first (inl same) = plain_number 0 9223372036854775807 0 seed (value_of (codes "seed") os) value (omega arith) s.0 (ap (λ n. value_of n os) same ∙ is)
     first (inr rest) = second (option_cases (codes "seeds", false) ((codes "steps", false) ∷ []) name rest)
-plain_settings (Outcomes steps states) os s name value option is = first (option_cases (codes "steps", false) ((codes "states", false) ∷ []) name option)
-  where
-    second : (codes "states" ≡ name) ⊎ (is_option [] name ≡ true) → IsPlain value
-    second (inl same) = plain_number 1 1048576 65536 states (value_of (codes "states") os) value (omega arith) s.1 (ap (λ n. value_of n os) same ∙ is)
-    second (inr none) = absurd cc
-
-    first : (codes "steps" ≡ name) ⊎ (is_option ((codes "states", false) ∷ []) name ≡ true) → IsPlain value
-    first (inl same) = plain_number 1 100 100 steps (value_of (codes "steps") os) value (omega arith) s.0 (ap (λ n. value_of n os) same ∙ is)
-    first (inr rest) = second (option_cases (codes "states", false) [] name rest)
+plain_settings (Outcomes steps states) os s name value option is = plain_search steps states os s name value option is
+plain_settings (Refute steps states) os s name value option is = plain_search steps states os s name value option is
 plain_settings (Gen number functions form) os s name value option is = first (option_cases (codes "number", true) ((codes "functions", false) ∷ ((codes "form", false) ∷ [])) name option)
   where
     third : (codes "form" ≡ name) ⊎ (is_option [] name ≡ true) → IsPlain value
@@ -328,6 +334,10 @@ one_command os (Litmus seed seeds steps) (Litmus seed' seeds' steps') same s t =
     let all_steps : steps ≡ steps' = one_number 1 100 100 steps steps' (value_of (codes "steps") os) (omega arith) s.2 t.2 in
     cc
 one_command os (Outcomes steps states) (Outcomes steps' states') same s t =
+    let all_steps : steps ≡ steps' = one_number 1 100 100 steps steps' (value_of (codes "steps") os) (omega arith) s.0 t.0 in
+    let all_states : states ≡ states' = one_number 1 1048576 65536 states states' (value_of (codes "states") os) (omega arith) s.1 t.1 in
+    cc
+one_command os (Refute steps states) (Refute steps' states') same s t =
     let all_steps : steps ≡ steps' = one_number 1 100 100 steps steps' (value_of (codes "steps") os) (omega arith) s.0 t.0 in
     let all_states : states ≡ states' = one_number 1 1048576 65536 states states' (value_of (codes "states") os) (omega arith) s.1 t.1 in
     cc

@@ -41,8 +41,15 @@ graph_words = (codes "graph", [])
 abbrev pub litmus_words : CommandWords
 litmus_words = (codes "litmus", (codes "seed", false) ∷ ((codes "seeds", false) ∷ ((codes "steps", false) ∷ [])))
 
+-- the options of each command that searches for all outcomes
+abbrev pub search_options : Options
+search_options = (codes "steps", false) ∷ ((codes "states", false) ∷ [])
+
 abbrev pub outcomes_words : CommandWords
-outcomes_words = (codes "outcomes", (codes "steps", false) ∷ ((codes "states", false) ∷ []))
+outcomes_words = (codes "outcomes", search_options)
+
+abbrev pub refute_words : CommandWords
+refute_words = (codes "refute", search_options)
 
 abbrev pub gen_words : CommandWords
 gen_words = (codes "gen", (codes "number", true) ∷ ((codes "functions", false) ∷ ((codes "form", false) ∷ [])))
@@ -60,5 +67,6 @@ commands =
     ∷ (graph_words
     ∷ (litmus_words
     ∷ (outcomes_words
+    ∷ (refute_words
     ∷ (gen_words
-    ∷ [])))))))))))
+    ∷ []))))))))))))

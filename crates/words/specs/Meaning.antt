@@ -1,12 +1,12 @@
 -- The command that words mean.
 use Rattle.std.specs.Prelude.{◌≡◌, ℕ, true, List, [], ◌∷◌, Option, Some, None, codes}
 use Rattle.il_syntax.specs.Name.{is_word}
-use Rattle.words.specs.Commands.{CommandWords, check_words, gen_words, graph_words, litmus_words, opt_words, outcomes_words, replay_words, run_words, seq_words, tidy_words, validate_words, walk_words}
+use Rattle.words.specs.Commands.{CommandWords, check_words, gen_words, graph_words, litmus_words, opt_words, outcomes_words, refute_words, replay_words, run_words, seq_words, tidy_words, validate_words, walk_words}
 use Rattle.words.specs.Numbers.{IsNumber, AreNumbers}
 use Rattle.words.specs.Options.{AllowsSettings, Options, value_of}
 use Rattle.words.specs.Spelling.{Setting, SpellsSettings, WordText}
 use Rattle.words.specs.declared.command.Command.{Command}
-use Rattle.words.specs.declared.command.Command.TheVariants.{Check, Gen, Graph, Litmus, Opt, Outcomes, Replay, Run, Seq, Tidy, Validate, Walk}
+use Rattle.words.specs.declared.command.Command.TheVariants.{Check, Gen, Graph, Litmus, Opt, Outcomes, Refute, Replay, Run, Seq, Tidy, Validate, Walk}
 use Rattle.words.specs.declared.command.Drawing.{Drawing}
 use Rattle.words.specs.declared.command.Drawing.TheVariants.{Seed, Picks}
 use Rattle.words.specs.declared.command.Form.{Form}
@@ -123,6 +123,7 @@ in_words Replay = without_values replay_words
 in_words Graph = without_values graph_words
 in_words (Litmus seed seeds steps) = record { words = litmus_words; gives = λ settings. GivesFirstSeed settings seed × GivesSeeds settings seeds × GivesFewSteps settings steps }
 in_words (Outcomes steps states) = record { words = outcomes_words; gives = λ settings. GivesFewSteps settings steps × GivesStates settings states }
+in_words (Refute steps states) = record { words = refute_words; gives = λ settings. GivesFewSteps settings steps × GivesStates settings states }
 in_words (Gen number functions form) = record { words = gen_words; gives = λ settings. GivesProgramNumber settings number × GivesFunctions settings functions × GivesForm settings form }
 
 abbrev pub name_of : Command → WordText

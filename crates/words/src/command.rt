@@ -72,6 +72,12 @@ pub enum Command {
         steps: u64,
         states: u64,
     },
+    /// Tell whether all outcomes of a target are its source's: how many steps each thread of a run may make, and to how many nodes each
+    /// search may come.
+    Refute {
+        steps: u64,
+        states: u64,
+    },
     /// Make a program of so many functions from a number.
     Gen {
         number: u64,

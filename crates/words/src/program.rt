@@ -3,7 +3,7 @@ ghost use Rattle.std.specs.Prelude.{◌≡◌, List, [], ◌∷◌, Bool, true, 
 ghost use Rattle.clap.specs.Words.{app_of, rule_of};
 ghost use Rattle.clap.specs.declared.builder.command.Command.TheViews.{out-Command as fields_of};
 ghost use Rattle.words.specs.Program.{clap_rule, clap_command, clap_program};
-ghost use Rattle.words.specs.Commands.{commands, gen_words, litmus_words, outcomes_words, run_words, seq_words, walk_options};
+ghost use Rattle.words.specs.Commands.{commands, gen_words, litmus_words, run_words, search_options, seq_words, walk_options};
 
 use clap::{Arg, ArgAction, Command};
 use std::alloc::{AllocError, Global};
@@ -70,11 +70,12 @@ fn litmus<'a>(alloc: Global) -> Result<Command<'a>, AllocError>
         .arg(option(alloc, "steps"))
 }
 
-fn outcomes<'a>(alloc: Global) -> Result<Command<'a>, AllocError>
-    ensures app { IfOk result (λ c. app_of c ≡ clap_command outcomes_words) }
+/// A command that searches for all outcomes.
+fn searching<'a>(alloc: Global, name: &'a str) -> Result<Command<'a>, AllocError>
+    ensures app { IfOk result (λ c. app_of c ≡ clap_command (name.entry.now, search_options)) }
     ensures local { IfOk result (λ c. (fields_of c).has_globals ≡ false) }
 {
-    Command::new(alloc, "outcomes")
+    Command::new(alloc, name)
         .arg(option(alloc, "steps"))?
         .arg(option(alloc, "states"))
 }
@@ -116,6 +117,7 @@ pub(crate) fn program<'a>(alloc: Global) -> Result<Command<'a>, AllocError>
         .subcommand(plain(alloc, "replay"))?
         .subcommand(plain(alloc, "graph"))?
         .subcommand(litmus(alloc)?)?
-        .subcommand(outcomes(alloc)?)?
+        .subcommand(searching(alloc, "outcomes")?)?
+        .subcommand(searching(alloc, "refute")?)?
         .subcommand(generating(alloc)?)
 }

@@ -243,6 +243,14 @@ fn outcomes(settings: &ArgMatches) -> Result<Command, WordsFault>
     Ok(Command::Outcomes { steps, states })
 }
 
+fn refute(settings: &ArgMatches) -> Result<Command, WordsFault>
+    ensures { (os : List Setting) → rows_of (found_of settings.now) ≡ map row_of os → ReadsCommand (codes "refute") os result }
+{
+    let steps = number_or(settings, "steps", 1, 100, 100)?;
+    let states = number_or(settings, "states", 1, 1048576, 65536)?;
+    Ok(Command::Refute { steps, states })
+}
+
 /// The form of this word.
 fn form_of(word: &str) -> Result<Form, WordsFault>
     ensures { MatchResult result (IsFormOf (Some word.now))
@@ -295,6 +303,7 @@ fn command(alloc: Global, name: &str, settings: &ArgMatches) -> Result<Command, 
         "graph" => Ok(Command::Graph),
         "litmus" => litmus(settings),
         "outcomes" => outcomes(settings),
+        "refute" => refute(settings),
         "gen" => generating(settings),
         _ => Err(WordsFault::Refused),
     }
@@ -324,6 +333,7 @@ fn has_dashes(words: &Words) -> bool
 /// - `replay`, `graph`
 /// - `litmus`: `--seed` (0 to 9223372036854775807, else 0), `--seeds` (1 to 500, else 100), `--steps` (1 to 100, else 100)
 /// - `outcomes`: `--steps` (1 to 100, else 100), `--states` (1 to 1048576, else 65536)
+/// - `refute`: as for `outcomes`
 /// - `gen`: `--number` (required, a number of 64 bits), `--functions` (1 to 256, else 4), `--form`
 ///   (`text` or `summary`, else `text`)
 pub fn read_words(alloc: Global, words: &Words) -> Result<Command, WordsFault>

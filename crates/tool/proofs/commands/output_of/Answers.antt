@@ -9,3 +9,6 @@ returns-in-Litmus g c = rw c.in-Litmus.is c.output-in-Litmus.ensures
 
 pub returns-in-Outcomes : goal.returns-in-Outcomes
 returns-in-Outcomes g c = rw c.in-Outcomes.is c.output-in-Outcomes.ensures
+
+pub returns-in-Refute : goal.returns-in-Refute
+returns-in-Refute g c = rw c.in-Refute.is c.output-in-Refute.ensures

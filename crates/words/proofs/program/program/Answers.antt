@@ -15,5 +15,6 @@ returns c =
     let eighth = c.in_ok-subcommand-8.ensures.shape c.plain-4.ensures.local ∙ ap₂ with_subcommand seventh (ap (λ (a : App). a.top) c.plain-4.ensures.app) in
     let ninth = c.in_ok-subcommand-9.ensures.shape c.plain-5.ensures.local ∙ ap₂ with_subcommand eighth (ap (λ (a : App). a.top) c.plain-5.ensures.app) in
     let tenth = c.in_ok-subcommand-10.ensures.shape c.in_ok-litmus.ensures.local ∙ ap₂ with_subcommand ninth (ap (λ (a : App). a.top) c.in_ok-litmus.ensures.app) in
-    let eleventh = c.in_ok-subcommand-11.ensures.shape c.in_ok-outcomes.ensures.local ∙ ap₂ with_subcommand tenth (ap (λ (a : App). a.top) c.in_ok-outcomes.ensures.app) in
-    IfOk-weaker c.subcommand-12.result _ _ (λ r h. h.shape c.in_ok-generating.ensures.local ∙ ap₂ with_subcommand eleventh (ap (λ (a : App). a.top) c.in_ok-generating.ensures.app)) c.subcommand-12.ensures
+    let eleventh = c.in_ok-subcommand-11.ensures.shape c.in_ok-searching.ensures.local ∙ ap₂ with_subcommand tenth (ap (λ (a : App). a.top) c.in_ok-searching.ensures.app) in
+    let twelfth = c.in_ok-subcommand-12.ensures.shape c.in_ok-searching-2.ensures.local ∙ ap₂ with_subcommand eleventh (ap (λ (a : App). a.top) c.in_ok-searching-2.ensures.app) in
+    IfOk-weaker c.subcommand-13.result _ _ (λ r h. h.shape c.in_ok-generating.ensures.local ∙ ap₂ with_subcommand twelfth (ap (λ (a : App). a.top) c.in_ok-generating.ensures.app)) c.subcommand-13.ensures

@@ -1,0 +1,4 @@
+mod Listed
+mod Runs
+mod Answered
+pub mod Callers
