@@ -54,10 +54,11 @@ module _ (rank : Bool → ℕ) where
       (left : List Bool) × AreTurns rank ones l turns left × ((m : Bool) (taken : List Bool) → taken ≡ left → ((b : Bool) → rank l ≤ rank b → rank m ≤ rank (between b)) → AreTurns rank twos m taken others)
   in_parts whole ones twos between joined l turns others (none_yet e o) = ([], none_yet e refl, λ m taken is below. none_yet is o)
   in_parts whole ones twos between joined l turns others (are_found f) =
-      let late = twos (between f.first) in
-      (others ++ reverse late,
-      are_found (record { first = f.first; above = f.above; is = taken_first turns others (ones f.first) late (f.is ∙ ap (λ (bs : List Bool). others ++ reverse bs) (joined f.first)) }),
-      λ m taken is below. are_found (record { first = between f.first; above = below f.first f.above; is = is }))
+      let late = twos (between f.first) in (
+        others ++ reverse late,
+        are_found (record { first = f.first; above = f.above; is = taken_first turns others (ones f.first) late (f.is ∙ ap (λ (bs : List Bool). others ++ reverse bs) (joined f.first)) }),
+        λ m taken is below. are_found (record { first = between f.first; above = below f.first f.above; is = is }),
+      )
 
 module _ (rank : Bool → ℕ) (change : ℕ → Head → Bool → Bool) (x : ℕ) where
   turns_of-put : (put : Tree → Tree) (rest : Tree) (l : Bool) → Shape put → turns_of rank change x (put rest) l ≡ turns_of rank change x rest l ++ turns_of rank change x (put Empty) (before_tree rank change x rest l)

@@ -190,9 +190,7 @@ fn add_moves(
         return Ok(());
     };
     if a.leaves_choice() {
-        return add_moves_at(
-            alloc, p, steps, entries, machine, thread, silent, &a, moves,
-        );
+        return add_moves_at(alloc, p, steps, entries, machine, thread, silent, &a, moves);
     }
     if let Some(m) = alone_move(alloc, p, steps, entries, thread, silent, &a)? {
         moves.push(m)?;
@@ -222,15 +220,7 @@ fn moves_by(
     let mut machine = stand(alloc, p, entries)?;
     let mut moves = Vec::new(alloc);
     for thread in 0..threads {
-        add_moves(
-            alloc,
-            p,
-            steps,
-            entries,
-            &mut machine,
-            thread,
-            &mut moves,
-        )?;
+        add_moves(alloc, p, steps, entries, &mut machine, thread, &mut moves)?;
     }
     Ok(moves)
 }

@@ -23,6 +23,6 @@ returns-in-Some-clause-all c =
     let n = node_of p c.args.steps c.args.entries.now in
     let asked : Asks c.args.steps (node_of c.args.p.now c.args.steps c.args.entries.now) c.args.thread c.in-Asks.a = search rules in
     let made : (leaves_choice c.in-Asks.a ≡ false) × IsMove (node_of c.args.p.now c.args.steps c.args.entries.now) c.args.thread c.in-Asks.a 0
-      × IsMoved c.args.p.now c.args.steps (node_of c.args.p.now c.args.steps c.args.entries.now) c.args.thread c.in-Asks.a 0 c.in-Some.m = search rules in
+    × IsMoved c.args.p.now c.args.steps (node_of c.args.p.now c.args.steps c.args.entries.now) c.args.thread c.in-Asks.a 0 c.in-Some.m = search rules in
     all_anywhere p c.args.steps n c.push.new.self.items c.args.thread c.in-Asks.a asked made.0
     (λ move. has_last p c.args.steps n c.args.moves.now.items c.push.new.self.items c.in-Some.m c.args.thread c.in-Asks.a 0 c.in_ok-push.ensures.items made.2)
