@@ -1,10 +1,10 @@
 -- What an answer says of the input.
-use Rattle.std.proofs.Common.{◌≡◌, ◌⊎◌, ◌∙◌, inr, ℕ, true, false, Option, Some, List, get_or, ap, refl, sym, subst}
+use Rattle.std.proofs.Common.{◌≡◌, ◌∙◌, inr, ℕ, true, false, Option, Some, List, get_or, ap, refl, sym, subst}
 use Rattle.std.specs.List.{position}
 use Rattle.std.proofs.lemmas.List.Quantifiers.{position-Some}
 use Rattle.std.proofs.lemmas.Option.{slice_get-get_or}
 use Rattle.il_syntax.specs.declared.program.Program.{Program}
-use Rattle.il_reader.specs.Refusal.{Refusal, IfRefused}
+use Rattle.il_reader.specs.Refusal.{IfRefused}
 use Rattle.il_reader.specs.declared.fault.InputFault.{InputFault}
 use Rattle.il_reader.specs.declared.fault.InputFault.TheVariants as input_fault
 use Rattle.text_parts.specs.Lines.{Text}
@@ -15,9 +15,9 @@ use Rattle.outcome_search.specs.Runs.{HasMoreNodes}
 use Rattle.outcome_list.specs.List.{some_is_spent, is_missed}
 use Rattle.outcome_list.specs.declared.found.Found.{Found}
 use Rattle.outcomes_session.specs.Session.{AreAllOutcomes}
-use Rattle.refute_session.specs.Session.{IsAgainst, IsFirstMissed, IsRefuteAnswer, IsRefuteSession, IsRefuteVerdict, missed_text, unknown_text, none, missed, unknown, target_too_many, target_listed, other_shape, too_many, compared, unread, read}
+use Rattle.refute_session.specs.Session.{IsAgainst, IsFirstMissed, IsRefuteAnswer, IsRefuteSession, IsRefuteVerdict, missed_text, unknown_text, missed, unknown, target_too_many, target_listed, too_many, compared, unread, read}
 use Rattle.refute_session.specs.declared.answer.RefuteAnswer.{RefuteAnswer}
-use Rattle.refute_session.specs.declared.answer.RefuteAnswer.TheVariants.{Refused, OtherShape, TooMany, Refines, Missed, Unknown}
+use Rattle.refute_session.specs.declared.answer.RefuteAnswer.TheVariants.{Refused, Missed, Unknown}
 
 pub answer_refused : (input : Text) (steps states : ℕ) (fault : InputFault PairRule) (rule : PairRule) (line column : ℕ) → IfRefused fault (λ r. IsFirstPairRefusal input r) → fault ≡ input_fault.Refused rule line column
     → IsRefuteSession input steps states (Refused rule line column)

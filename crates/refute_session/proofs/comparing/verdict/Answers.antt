@@ -1,4 +1,4 @@
-use Rattle.std.proofs.Common.{◌∙◌, ℕ, sym}
+use Rattle.std.proofs.Common.{◌∙◌, sym}
 use Rattle.refute_session.proofs.Answered.{first_missed, missed_verdict, unknown_verdict}
 use Rattle.refute_session.proofs.comparing.verdict.Goals as goal
 
