@@ -1,5 +1,6 @@
 mod Printing
 mod Verdicts
+mod Budgets
 mod Lines
 mod Answered
 pub mod Callers

@@ -1,7 +1,7 @@
 -- The output: each outcome with a journal of a run that has it.
-use Rattle.std.specs.Prelude.{ℕ, ◌+◌, List, [], ◌∷◌, ◌++◌, codes, length, slice_index_or}
+use Rattle.std.specs.Prelude.{ℕ, Bool, true, false, if◌then◌else◌, ◌+◌, List, [], ◌∷◌, ◌++◌, codes, length, slice_index_or}
 use Rattle.std.specs.Fmt.{decimal}
-use Rattle.std.specs.List.{flat_map, range_with_len}
+use Rattle.std.specs.List.{list_all, flat_map, range_with_len}
 use Rattle.values_undef.specs.declared.value.Val.{Val}
 use Rattle.values_undef.specs.declared.value.Val.TheVariants.{Undef}
 use Rattle.values_undef.specs.declared.journal.Ending.{Ending}
@@ -39,3 +39,17 @@ found_text p f =
 -- how many there are
 abbrev pub outcomes_line : ℕ → Text
 outcomes_line n = codes "outcomes " ++ decimal n
+
+-- the ending is that of a run that is done
+abbrev pub is_done_ending : Ending → Bool
+is_done_ending Done = true
+is_done_ending Failed = false
+is_done_ending Spent = false
+
+-- each of them is done
+abbrev pub are_all_done : List Found → Bool
+are_all_done list = list_all (λ f. is_done_ending f.outcome.ending) list
+
+-- then they are those of every greater budget
+abbrev pub budget_lines : List Found → Text
+budget_lines list = if are_all_done list then whole_line (codes "every budget") else []

@@ -15,7 +15,7 @@ use Rattle.outcome_list.specs.List.{IsFound, found_outcome}
 use Rattle.outcome_list.specs.Order.{AreOutcomesRising}
 use Rattle.outcome_list.specs.declared.found.Found.{Found}
 use Rattle.outcomes_session.specs.Judging.{is_met_by}
-use Rattle.outcomes_session.specs.Output.{outcomes_line, found_text}
+use Rattle.outcomes_session.specs.Output.{budget_lines, outcomes_line, found_text}
 use Rattle.outcomes_session.specs.declared.answer.OutcomesAnswer.{OutcomesAnswer}
 use Rattle.outcomes_session.specs.declared.answer.OutcomesAnswer.TheVariants.{Refused, TooMany, Told}
 
@@ -36,11 +36,12 @@ pub record AreAllOutcomes (p : Program) (steps : ℕ) (list : List Found) : Type
 abbrev pub told_outcomes : Program → List Found → List EndAndOutputs
 told_outcomes p list = map (λ f. outcome_in f.journal (length p.threads)) list
 
--- All outcomes are written, and whether each expectation is met by them; and it is told whether all are.
+-- All outcomes are written, and whether each expectation is met by them; and it is told whether all are. Behind it stands how many
+-- outcomes there are, and where each of them is done, that they are those of every greater budget.
 pub record IsToldOf (p : Program) (expectations : List Expected) (steps : ℕ) (text : Text) (met : Bool) : Type 0 where
   pub list : List Found
   pub outcomes : AreAllOutcomes p steps list
-  pub written : text ≡ flat_map (found_text p) list ++ (verdict_lines (is_met_by p list) expectations ++ whole_line (outcomes_line (length list)))
+  pub written : text ≡ flat_map (found_text p) list ++ (verdict_lines (is_met_by p list) expectations ++ (whole_line (outcomes_line (length list)) ++ budget_lines list))
   pub all : met ≡ are_met (is_met_by p list) expectations
 
 -- The answer: the first refusal of the input; or that its program has more nodes than the search may come to; or, where it

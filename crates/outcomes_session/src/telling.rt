@@ -9,7 +9,7 @@ ghost use Rattle.outcomes_session.specs.Telling.{IsTelling};
 
 use crate::found::outcomes;
 use crate::judging::push_judged;
-use crate::text::{push_count, push_found};
+use crate::text::{push_budget, push_count, push_found};
 use il_syntax::Program;
 use litmus::{RunOutcome, outcome_of};
 use litmus_text::Expectation;
@@ -66,6 +66,7 @@ fn tell_list(
     let come = outcomes.as_slice();
     let met = push_judged(alloc, &mut text, p, expectations, list, come)?;
     push_count(&mut text, list.len())?;
+    push_budget(&mut text, list)?;
     Ok(Telling::Told {
         text: Bytes { bytes: text },
         met,

@@ -3,7 +3,7 @@ ghost use Rattle.std.specs.Prelude.{◌≡◌, ◌++◌, ℕ, ◌<◌, ◌^◌, 
 ghost use Rattle.std.specs.Fmt.{decimal};
 ghost use Rattle.text_parts.specs.Lines.{whole_line};
 ghost use Rattle.litmus.specs.Outcome.{outcome_in};
-ghost use Rattle.outcomes_session.specs.Output.{value_line, value_lines, final_lines, found_text, outcomes_line};
+ghost use Rattle.outcomes_session.specs.Output.{are_all_done, budget_lines, is_done_ending, value_line, value_lines, final_lines, found_text, outcomes_line};
 
 use il_syntax::{Location, Program};
 use itoa::Buffer;
@@ -113,5 +113,29 @@ pub(crate) fn push_count(out: &mut Vec<u8>, n: usize) -> Result<(), NoMemory>
     push(out, b"outcomes ")?;
     push(out, buffer.format(n as u64).as_bytes())?;
     push(out, b"\n")?;
+    Ok(())
+}
+
+/// Whether the ending is that of a run that is done.
+fn is_done_ending(ending: Ending) -> bool
+    ensures { result ≡ is_done_ending ending }
+{
+    matches!(ending, Ending::Done)
+}
+
+/// Whether each outcome is done.
+fn are_all_done(list: &[Found]) -> bool
+    ensures { result ≡ are_all_done list.now }
+{
+    list.iter().all(|f| is_done_ending(f.outcome.ending))
+}
+
+/// Puts the line that says that these outcomes are those of every greater budget to the end, where each of them is done.
+pub(crate) fn push_budget(out: &mut Vec<u8>, list: &[Found]) -> Result<(), NoMemory>
+    ensures { OnOk result (out.new.items ≡ out.old.items ++ budget_lines list.now) }
+{
+    if are_all_done(list) {
+        push(out, b"every budget\n")?;
+    }
     Ok(())
 }
