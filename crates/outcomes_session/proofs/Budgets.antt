@@ -11,7 +11,7 @@ use Rattle.outcome_budgets.proofs.Callers.{done_complete, done_lists}
 use Rattle.outcome_list.specs.List.{IsFound, found_outcome}
 use Rattle.outcome_list.specs.declared.found.Found.{Found}
 use Rattle.outcomes_session.specs.Output.{is_done_ending, are_all_done}
-use Rattle.outcomes_session.specs.Laws.{DoneListsAreOfEveryBudget}
+use Rattle.outcomes_session.specs.Laws.{DoneListsStay}
 
 done_is : (e : Ending) → is_done_ending e ≡ true → e ≡ Done
 done_is Done h = refl
@@ -29,7 +29,7 @@ found_more p few many (f ∷ list) l h d =
     let is = ap (λ (q : FinalOutcome). q.ending) h.0.2 ∙ done_is f.outcome.ending (and_parts _ _ d).0 in
     ((h.0.0, done_complete p few many f.journal l h.0.0 h.0.1 is, h.0.2), found_more p few many list l h.1 (and_parts _ _ d).1)
 
-pub done_stays : DoneListsAreOfEveryBudget
+pub done_stays : DoneListsStay
 done_stays p few many list ok l all d = record {
   nothing_missed = λ o q. all.nothing_missed o ((done_lists p few many o ok l each).0 q);
   nothing_invented = found_more p few many list l all.nothing_invented d;

@@ -40,5 +40,5 @@ VerdictsAreOfRuns = (p : Program) (steps : ℕ) (list : List Found) (e : Expecte
     × ((e.some ≡ true → ⊥) → (is_met_by p list e ≡ true) ↔ (SomeRunMeets p steps e → ⊥))
 
 -- A list of all outcomes within a budget, in which each is done, is the list within each greater budget.
-abbrev pub DoneListsAreOfEveryBudget : Type 0
-DoneListsAreOfEveryBudget = (p : Program) (few many : ℕ) (list : List Found) → IsProperProgram p → few ≤ many → AreAllOutcomes p few list → are_all_done list ≡ true → AreAllOutcomes p many list
+abbrev pub DoneListsStay : Type 0
+DoneListsStay = (p : Program) (few many : ℕ) (list : List Found) → IsProperProgram p → few ≤ many → AreAllOutcomes p few list → are_all_done list ≡ true → AreAllOutcomes p many list
