@@ -3,7 +3,7 @@ use Rattle.std.proofs.Common.{◌≡◌, ℕ, List, Bool, true, false, cond, Opt
 use Rattle.std.specs.BTreeMap.{is_at}
 use Rattle.exec_graph.specs.declared.stamp.Stamp.{Stamp}
 use Rattle.exec_graph.specs.declared.links.Link.{Link}
-use Rattle.exec_graph.specs.declared.handed.Handed.{Handed}
+use Rattle.exec_graph.specs.Handed.{Handed}
 use Rattle.exec_graph.specs.Stamps.{stamp_cmp}
 use Rattle.exec_graph.specs.Clock.{times_at, with_times}
 use Rattle.exec_graph.specs.Made.{with_read, with_writer}

@@ -2,8 +2,12 @@
 use Rattle.std.specs.Prelude.{ℕ, List, Option, Some, None, if◌then◌else◌}
 use Rattle.std.specs.BTreeMap.{BTreeMap, get, is_at}
 use Rattle.exec_graph.specs.declared.stamp.Stamp.{Stamp}
-use Rattle.exec_graph.specs.declared.handed.Handed.{Handed}
 use Rattle.exec_graph.specs.Stamps.{stamp_cmp}
+
+-- the entry that wrote a message, and what the message hands on
+pub record Handed : Type 0 where
+  pub writer : ℕ
+  pub times : List ℕ
 
 -- what the message hands on, where one is kept
 abbrev pub times_in : Option Handed → Option (List ℕ)
