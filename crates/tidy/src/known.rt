@@ -48,15 +48,20 @@ fn push_pair(row: &mut Row, pair: KnownPair) -> Result<(), NoMemory>
     Ok(())
 }
 
+/// Whether a register stands in a pair.
+fn stands_in(pair: KnownPair, k: u32) -> bool
+    ensures { result ≡ touches pair.r pair.a (Some k) }
+{
+    k == pair.r || are_equal(pair.a, Atom::Reg(k))
+}
+
 /// Whether a register stands in a pair of the row.
 fn is_named(row: &[KnownPair], k: u32) -> bool
     ensures { result ≡ list_any (λ pair. touches pair.r pair.a (Some k)) row.now }
 {
     match row {
         [] => false,
-        [pair, more @ ..] => {
-            (k == pair.r || are_equal(pair.a, Atom::Reg(k))) || is_named(more, k)
-        }
+        [pair, more @ ..] => stands_in(*pair, k) || is_named(more, k),
     }
 }
 
@@ -64,17 +69,13 @@ fn is_named(row: &[KnownPair], k: u32) -> bool
 fn others(alloc: Global, row: &[KnownPair], k: u32) -> Result<Row, NoMemory>
     ensures { IfOk result (λ new. (r : ℕ) (a : Atom) → known_in new r a ≡ (not (touches r a (Some k)) && known_in row.now r a)) }
 {
-    match row {
-        [] => Ok(Items::new(alloc)),
-        [pair, more @ ..] => {
-            let mut new = others(alloc, more, k)?;
-            if k == pair.r || are_equal(pair.a, Atom::Reg(k)) {
-                return Ok(new);
-            }
+    let mut new = Items::new(alloc);
+    for pair in row {
+        if !stands_in(*pair, k) {
             push_pair(&mut new, *pair)?;
-            Ok(new)
         }
     }
+    Ok(new)
 }
 
 /// The row without the pairs in which a register stands. Where there is none it is the row that came, so that a
